@@ -15,5 +15,6 @@ pub mod Elsewhere
 pub mod WrittenCopy
 pub mod Still
 pub mod BothSides
+pub mod Quiet
 pub mod Recorded
 pub mod Asking

@@ -68,7 +68,7 @@ use Rattle.rg_base.specs.declared.verdict.StopReason.TheVariants as reasons
 use Rattle.rg_home.specs.Pages.{slot_of}
 use Rattle.rg_home.specs.Rows.{row_at}
 use Rattle.rg_home.specs.Table.{IsTable}
-use Rattle.rg_model.specs.Changes.{changes}
+use Rattle.rg_model.specs.Changes.{changes, unit_writes}
 use Rattle.rg_model.specs.Layout.{is_right_side}
 use Rattle.rg_model.specs.Right.{are_quiet_right, is_packed}
 use Rattle.rg_model.specs.Turn.{alter, is_term, step_of, turn_of}
@@ -154,6 +154,13 @@ pub record IsDesk (d : Engine) (c : ChronicleState) (origin : Origin) (copy : �
   pub among : AreKeys keys state
   pub few : length keys ≤ length c.trace + row_count start
   pub few_rows : row_count start < 2 ^ 32
+
+-- up to the switch, a new copy that is kept is that of the last record once WRITTEN was said
+abbrev pub IsAsWritten : Option Stage → Option PreparedSeen → (records : ℕ) → Type 0
+IsAsWritten stage None records = Unit {0}
+IsAsWritten None (Some p) records = Unit {0}
+IsAsWritten (Some s) (Some p) records =
+    s.written ≡ true → s.switched ≡ false → p.records ≡ records
 
 -- What callers see of a desk: the entries of earlier openings, those from its own on, what its
 -- writes are planned over, its pages and their marks, how many records the log had when it was
@@ -264,16 +271,16 @@ is_reply stmt Down = true
 is_reply stmt reply = is_answer stmt reply
 
 -- A statement has one entry more, with the number of calls up to it. It is answered DOWN if and
--- only if the desk is down. The volume is called only for the COMMIT of a unit that has written: at
--- OK all records are forced, and DEVICE, which brings the desk down, comes only where a call
--- failed. FULL stands in it exactly where there is no plan of the write, and then the entries
--- before have allowed so many bytes. LOGFULL stands in it exactly where the log has less left than
--- the write needs, which has a plan, and then the writes before have taken nearly all of it. Pages
--- and log are as they were, unless OK is answered, or DEVICE. At OK pages, units and records are
--- those that its effect says: a write leaves those of its plan, a COMMIT its record, and a ROLLBACK
--- an undo of each write of its unit. What a crash leaves at each moment of it is sound, and stores
--- a table that process death leaves of the state before it. A COMMIT that calls the volume may be
--- in then, or not.
+-- only if the desk is down. The volume is called only for the COMMIT of a unit that has written, by
+-- the entries too: at OK all records are forced, and DEVICE, which brings the desk down, comes only
+-- where a call failed. FULL stands in it exactly where there is no plan of the write, and then the
+-- entries before have allowed so many bytes. LOGFULL stands in it exactly where the log has less
+-- left than the write needs, which has a plan, and then the writes before have taken nearly all of
+-- it. Pages and log are as they were, unless OK is answered, or DEVICE. At OK pages, units and
+-- records are those that its effect says: a write leaves those of its plan, a COMMIT its record,
+-- and a ROLLBACK an undo of each write of its unit. What a crash leaves at each moment of it is
+-- sound, and stores a table that process death leaves of the state before it. A COMMIT that calls
+-- the volume may be in then, or not.
 pub record MadeSaid {V O : Type 0}
     (look : V → VolumeSeen) (old : DeskState V O) (session : Session) (stmt : Stmt)
     (new : DeskState V O) : Type 0 where
@@ -288,6 +295,8 @@ pub record MadeSaid {V O : Type 0}
   pub device : reply ≡ Device → Rose (look old.volume).faults (look new.volume).faults
   pub quiet :
       forces old.ground.units session stmt ≡ false → look new.volume ≡ look old.volume
+  pub idle :
+      unit_writes session.0 (behind [] old.trace) ≡ 0 → look new.volume ≡ look old.volume
   pub forced :
       forces old.ground.units session stmt ≡ true → reply ≡ Done
       → new.ground.log.forced ≡ length new.ground.log.records
@@ -415,6 +424,10 @@ pub record HasTaken (changes : ℕ) (s : Stage) : Type 0 where
   pub done : s.done ≤ s.target
   pub target : s.target ≤ changes
 
+-- once the last LAST was made it has taken all, up to the switch
+abbrev pub HasCaught : (changes : ℕ) → Stage → Type 0
+HasCaught changes s = s.last ≡ true → s.switched ≡ false → changes ≤ s.done
+
 -- the event is that of the next step
 abbrev pub IsNextStep : {V O : Type 0} → DeskState V O → Option Answer → Event → Type 0
 IsNextStep desk answer event =
@@ -443,7 +456,8 @@ pub record MadeStep {V O : Type 0} (look : V → VolumeSeen) (old : DeskState V 
 
 -- The utility's step begins: the desk is up, the utility is at this stage, and the operator has
 -- given this answer, which no entry has yet. There is room for one. The rest of what the step goes
--- by is so as well.
+-- by is so as well. Once the last LAST was made all changes are taken, and the log has no record
+-- more since the new copy was written, up to the switch.
 pub record IsTask {V O : Type 0} (look : V → VolumeSeen) (desk : DeskState V O) (task : Task)
     : Type 0 where
   pub up : desk.down ≡ false
@@ -456,6 +470,8 @@ pub record IsTask {V O : Type 0} (look : V → VolumeSeen) (desk : DeskState V O
   pub copy : task.copy ≡ other_of desk.copy
   pub capacity :
       task.capacity ≡ copy_capacity (look desk.volume).capacities (other_of desk.copy)
+  pub caught : HasCaught task.changes task.stage
+  pub current : IsAsWritten desk.stage desk.shadow (length desk.ground.log.records)
 
 -- a desk that is down, or where no utility runs, has made the entry that says so
 pub record RefusesStep {V O : Type 0} (look : V → VolumeSeen) (old new : DeskState V O) : Type 0
@@ -578,6 +594,18 @@ pub record HasCurrent {V O : Type 0} (desk : DeskState V O) : Type 0 where
   pub shadow : PreparedSeen
   pub shadow_is : desk.shadow ≡ Some shadow
   pub current : shadow.records ≡ length desk.ground.log.records
+
+-- a new copy of so many pages is kept, which was written since the last record
+pub record HasWritten {V O : Type 0} (desk : DeskState V O) (pages : ℕ) : Type 0 where
+  pub shadow : PreparedSeen
+  pub shadow_is : desk.shadow ≡ Some shadow
+  pub current : shadow.records ≡ length desk.ground.log.records
+  pub pages_are : length shadow.shade.pages ≡ pages
+
+-- so it is where WRITTEN is said
+abbrev pub TellsWritten : {V O : Type 0} → DeskState V O → Event → Type 0
+TellsWritten desk (events.Written pages) = HasWritten desk pages
+TellsWritten desk event = Unit {0}
 
 -- a layout of the new copy that is kept: it has the copy's pages, and the spots of their rows
 abbrev pub IsNewSide : Side → PreparedSeen → Type 0

@@ -34,7 +34,7 @@ ghost use Rattle.rg_engine.specs.Layouts.{IsLayout, ShowsSideOf};
 ghost use Rattle.rg_base.specs.Copies.{IsCopy, other_of};
 ghost use Rattle.rg_desk.specs.Desk.{LeavesTable, LegalFrom, MadeFlush, MadeLayout, MadeSaid};
 ghost use Rattle.rg_desk.specs.Desk.{AreSides, CanCommit, CanPrepare, HasCurrent, HasDrain};
-ghost use Rattle.rg_desk.specs.Desk.{IsOtherCopy, MadeFall, MadeSwitch, Prepares};
+ghost use Rattle.rg_desk.specs.Desk.{IsOtherCopy, MadeFall, MadeSwitch, Prepares, TellsWritten};
 ghost use Rattle.rg_engine.specs.Prepared.{shade_kept};
 ghost use Rattle.rg_desk.specs.Desk.{written_seen};
 ghost use Rattle.rg_engine.specs.Tabled.{EndsWithTable};
@@ -56,7 +56,8 @@ ghost use Rattle.rg_desk.specs.Desk.{BeginsStep, CanFeed, FeedIs, MadeCopy};
 ghost use Rattle.rg_engine.specs.Sends.{begin_items};
 ghost use Rattle.rg_feed.specs.Ends.{Grew, SameReceived, sent_items};
 ghost use Rattle.rg_engine.specs.ChangeFeed.Sending.{AddsChanges, items_made};
-ghost use Rattle.rg_desk.specs.Desk.{HasTaken, IsNextStep, MadeStart, MadeStep, left_to_take};
+ghost use Rattle.rg_desk.specs.Desk.{HasCaught, HasTaken, IsAsWritten, IsNextStep, MadeStart};
+ghost use Rattle.rg_desk.specs.Desk.{MadeStep, left_to_take};
 ghost use Rattle.rg_outside.specs.Told.{AddsAnswer, HandsOver};
 ghost use Rattle.rg_rules.specs.Tally.Changed.{no_changes};
 ghost use Rattle.rg_laws_utility.specs.TraceStage.Tending.{NextBy, utility_entry};
@@ -137,7 +138,8 @@ pub struct Desk<V: Counts, O> {
 }
 
 impl<V: Counts, O> Model for Desk<V, O> {
-    ghost use Rattle.rg_desk.specs.Desk.{DeskState, IsDesk};
+    ghost use Rattle.std.specs.Prelude.{length};
+    ghost use Rattle.rg_desk.specs.Desk.{DeskState, IsAsWritten, IsDesk};
     ghost use Rattle.rg_engine.specs.Engine.{ground_of, seen_in};
     ghost use Rattle.rg_engine.specs.Prepared.{KeepsPrepared, prepared_seen};
     ghost use Rattle.rg_engine.specs.Sends.{KeepsItems};
@@ -178,7 +180,8 @@ impl<V: Counts, O> Model for Desk<V, O> {
         (V.seen d.volume) × Tends d.chronicle.trace d.stage d.changes d.engine.set_aside
         × KeepsPrepared d.shadow d.engine.log.records d.copy
         (V.seen d.volume) × KeepsItems d.engine d.origin d.chronicle.trace d.down d.stage d.changes
-        (sent_items d.outlet) };
+        (sent_items d.outlet)
+        × IsAsWritten d.stage (prepared_seen d.shadow) (length d.engine.log.records) };
 }
 
 // The entry of an event that the system makes, after so many calls.
@@ -622,10 +625,12 @@ impl<V: Counts, O: Operator> Desk<V, O> {
 
     /// Makes the entry of a step: IDLE where no utility runs, DOWN where the desk is down, else the
     /// utility's next event with the operator's answer. No event is booked so that copies a page,
-    /// or that switches to the new copy or fails to. It takes no memory.
+    /// or that switches to the new copy or fails to. WRITTEN is booked only where the new copy that
+    /// is kept was written since the last record. It takes no memory.
     pub fn book(&mut self, event: Event, answer: Option<Answer>)
         requires next { IsNextStep self.old answer event }
         requires kept { answer ≡ self.old.kept }
+        requires written { TellsWritten self.old event }
         requires room { 1 ≤ self.old.spare }
         ensures { MadeStep V.seen self.old answer event [] self.new }
     {
@@ -668,6 +673,7 @@ impl<V: Counts, O: Operator> Desk<V, O> {
         requires stage { self.old.stage ≡ Some stage }
         requires next { NextBy false (Some stage) self.old.changes self.old.covered (Some answer)
             event }
+        requires written { TellsWritten self.old event }
         requires room { 1 ≤ self.old.spare }
         ensures { MadeStep V.seen self.old (Some answer) event [] self.new }
     {
@@ -793,10 +799,14 @@ impl<V: Counts, O: Operator> Desk<V, O> {
         self.chronicle.push(utility(event, None, calls));
     }
 
-    /// The stage of the utility that runs. It has taken no more changes than there are.
+    /// The stage of the utility that runs. It has taken no more changes than there are, and all once
+    /// the last LAST was made. What WRITTEN told of is that of the last record still, if it is kept.
     pub fn stage(&self) -> Option<Stage>
         ensures stage { result ≡ self.now.stage }
         ensures taken { IfSome result (HasTaken self.now.changes) }
+        ensures caught { IfSome result (HasCaught self.now.changes) }
+        ensures current { IsAsWritten self.now.stage self.now.shadow
+            (length self.now.ground.log.records) }
     {
         self.stage
     }

@@ -1,10 +1,11 @@
 -- The room of the other copy, and how far it is filled, over a step.
-use Rattle.std.proofs.Common.{◌≡◌, ◌≤◌, ◌<◌, ◌*◌, ℕ, Bool, true, false, not, Option, Some, None}
+use Rattle.std.proofs.Common.{◌≡◌, ◌≤◌, ◌<◌, ◌*◌, ◌+◌, ◌-◌, ◌==◌, ◌&&◌, nat_le, ℕ, Bool, true}
+use Rattle.std.proofs.Common.{false, not, Option, Some, None}
 use Rattle.std.proofs.Common.{IfSome, nat_lt, if◌then◌else◌, refl, sym, ◌∙◌, ap, subst, arith, inl}
 use Rattle.std.proofs.Common.{inr}
 use Rattle.std.proofs.lemmas.Bool.Decides.{nat_tests}
 use Rattle.std.specs.Option.{is_some}
-use Rattle.std.specs.Prelude.{IfErr}
+use Rattle.std.specs.Prelude.{IfErr, Ok, Err}
 use Rattle.std.specs.declared.result.Result.{Result}
 use Rattle.rg_base.specs.declared.control.Answer.{Answer}
 use Rattle.rg_base.specs.declared.control.Command.{Command}
@@ -23,7 +24,14 @@ use Rattle.rg_laws_utility.proofs.CourseLemmas.Loads.{loading_goes_on}
 use Rattle.rg_feed.specs.declared.fold.item.Stage.{Stage}
 use Rattle.rg_model.specs.State.{Utility}
 use Rattle.rg_model.specs.Turn.{Turn, Runs, Switches, Stops, Falls, alter, end_turn, is_term}
-use Rattle.rg_model.specs.Turn.{step_by_drain, step_of, term_turn, turn_at, turn_of}
+use Rattle.rg_model.specs.Turn.{step_by_drain, step_of, term_turn, turn_at, turn_if, turn_of}
+use Rattle.rg_base.proofs.Small.{nat_itself}
+use Rattle.rg_base.specs.declared.options.Options.{Options}
+use Rattle.rg_model.specs.Packed.{page_at}
+use Rattle.rg_reload.specs.declared.fault.ReloadFault.{ReloadFault}
+use Rattle.rg_reload.specs.declared.fault.ReloadFault.TheVariants as reloads
+use Rattle.rg_reload.specs.declared.packer.Filled.{Filled}
+use Rattle.rg_phase.proofs.Due.{altered as now_altered}
 use Rattle.rg_shadow.specs.declared.fault.ShadowFault.{ShadowFault}
 use Rattle.rg_rules.specs.Stage.Followed.{Followed}
 use Rattle.rg_rules.specs.Stage.NumbersOf.{numbers_of}
@@ -32,7 +40,8 @@ use Rattle.rg_stmt.specs.declared.event.Event.TheVariants as events
 use Rattle.rg_laws_utility.specs.TraceStage.Tending.{FollowsBy, is_plain}
 use Rattle.rg_phase.specs.Drafted.{IsFullOf}
 use Rattle.rg_phase.specs.Step.{HasPagesFor, NextMade}
-use Rattle.rg_phase.specs.Working.{IsEventOrStop, MakesStep, is_filling, takes}
+use Rattle.rg_phase.specs.Working.{IsEventOrStop, IsNextPage, IsPageOf, IsReloadEvent, MakesStep}
+use Rattle.rg_phase.specs.Working.{is_filling, reload_of, takes}
 
 -- ---- room
 
@@ -294,3 +303,60 @@ shows_none stage next event copy later is =
     of_stage : (o : Option Stage) → IsShown o None copy later event
     of_stage None = tt
     of_stage (Some s) = tt
+
+-- ---- the page that was filled
+
+plain_if : (b : Bool) (u : Utility) (d : DrainState) → b ≡ true
+    → is_plain (turn_if b (Runs u d)) ≡ true
+plain_if true u d is = refl
+plain_if false u d is = absurd (cc is)
+
+all_three : (a b c : Bool) → a ≡ true → b ≡ true → c ≡ true → (a && (b && c)) ≡ true
+all_three true true true p q r = refl
+all_three false b c p q r = absurd (cc p)
+all_three true false c p q r = absurd (cc q)
+all_three true true false p q r = absurd (cc r)
+
+-- it may be the next event of RELOAD
+pub reload_may : (s : Stage) (capacity : ℕ) (made : Result Filled ReloadFault)
+    → IsNextPage s capacity made → IsReloadEvent s (reload_of made)
+reload_may s capacity (Ok filled) is = record {
+  booked = refl;
+  device = refl;
+  next = λ all covered answer.
+      let now = now_altered (numbers_of s) answer.command in
+      subst
+      (λ (v : Utility). is_plain
+      (turn_at steps.Reload all covered answer v s.drain
+      (events.Reload filled.page filled.rows)) ≡ true)
+      (sym now.same)
+      (plain_if
+      (filled.page == page_at now.options.freepage (s.filled + 1)
+      && (nat_le 1 filled.rows && nat_le filled.rows (s.unloaded - s.reloaded))) _ s.drain
+      (all_three (filled.page == page_at now.options.freepage (s.filled + 1))
+      (nat_le 1 filled.rows) (nat_le filled.rows (s.unloaded - s.reloaded))
+      (subst
+      (λ (n : ℕ). (n == page_at now.options.freepage (s.filled + 1)) ≡ true)
+      (sym (is.0 ∙ ap (λ (f : ℕ). page_at f (s.filled + 1)) now.alike.freepage))
+      (nat_itself (page_at now.options.freepage (s.filled + 1))))
+      (grind (arith, nat_tests, is.1)) (grind (arith, nat_tests, is.2))));
+}
+reload_may s capacity (Err (reloads.NoSpace pages)) is =
+    record { booked = refl; device = refl; next = λ all covered answer. refl }
+reload_may s capacity (Err reloads.NoMemory) is =
+    record { booked = refl; device = refl; next = λ all covered answer. refl }
+
+-- the other copy has room for it, or has not where it stops so
+pub reload_room : (s : Stage) (capacity weight : ℕ) (made : Result Filled ReloadFault)
+    → s.switched ≡ false → s.reloaded < s.unloaded → IsNextPage s capacity made
+    → HasPagesFor capacity weight s (reload_of made)
+reload_room s capacity weight (Ok filled) unswitched left is = (unswitched, is.3)
+reload_room s capacity weight (Err (reloads.NoSpace pages)) unswitched left is =
+    (unswitched, λ none. is, λ all. absurd (omega (arith, left, all)))
+reload_room s capacity weight (Err reloads.NoMemory) unswitched left is = tt
+
+-- it tells what was filled
+pub reload_tells : (made : Result Filled ReloadFault) → IsPageOf made (reload_of made)
+reload_tells (Ok filled) = (refl, refl)
+reload_tells (Err (reloads.NoSpace pages)) = tt
+reload_tells (Err reloads.NoMemory) = tt

@@ -1,5 +1,6 @@
 -- A new copy that is caught up with all changes may be written, and then switched to.
-use Rattle.std.proofs.Common.{◌≡◌, ◌==◌, ◌&&◌, ◌+◌, ◌-◌, ◌*◌, ◌/◌, nat_le, ℕ, Bool, true, false}
+use Rattle.std.proofs.Common.{◌≡◌, ◌≤◌, ◌==◌, ◌&&◌, ◌+◌, ◌-◌, ◌*◌, ◌/◌, nat_le, ℕ, Bool, true}
+use Rattle.std.proofs.Common.{false}
 use Rattle.std.proofs.Common.{List, []}
 use Rattle.std.proofs.Common.{◌∷◌, Option, Some, None, IfSome, if◌then◌else◌, length, filter, map}
 use Rattle.std.proofs.Common.{refl}
@@ -16,7 +17,7 @@ use Rattle.rg_laws_utility.specs.ByteAccount.Reaching.{ReachesBy}
 use Rattle.rg_laws_utility.proofs.ByteAccountLemmas.Reached.{feed_is_allowed}
 use Rattle.rg_translate.proofs.RightCopyLemmas.Taking.{caught_claims, same_slots}
 use Rattle.rg_desk.specs.Desk.{AreSides, CanCommit, CanPrepare, DeskState, HasCurrent, HasDrain}
-use Rattle.rg_desk.specs.Desk.{IsNewSide}
+use Rattle.rg_desk.specs.Desk.{IsAsWritten, IsNewSide, IsTask}
 use Rattle.rg_engine.specs.Prepared.{PreparedSeen}
 use Rattle.rg_outside.specs.Volume.{VolumeSeen}
 use Rattle.rg_feed.specs.Ends.{Received}
@@ -252,6 +253,50 @@ written_now u d copy capacity (Written options) (Some p) inlet is h = record {
   keeps = h.0;
   draft = h.1;
 }
+
+-- under a drain, once the last LAST was made, all changes are taken
+pub caught_up : {V O : Type 0} (look : V → VolumeSeen) (desk : DeskState V O) (inlet : Received)
+    (task : Task) → IsTask look desk task → Hears desk inlet → (numbers_in task).switched ≡ false
+    → (numbers_in task).last ≡ true → inlet.taken ≡ (numbers_in task).done
+    → inlet.taken ≤ length (changes (since_begin inlet.items))
+    → inlet.taken ≡ length (changes (since_begin inlet.items))
+caught_up look desk inlet task begun hears unswitched last taken within =
+    let s = task.stage in
+    let same = (altered (numbers_of s) task.answer.command).same in
+    let was_last : s.last ≡ true = sym (ap (λ (v : Utility). v.last) same) ∙ last in
+    let was_not : s.switched ≡ false = sym (ap (λ (v : Utility). v.switched) same) ∙ unswitched in
+    omega (
+      arith,
+      begun.caught was_last was_not,
+      begun.changes,
+      changes_heard desk inlet s hears begun.stage was_not,
+      taken,
+      ap (λ (v : Utility). v.done) same,
+      within,
+    )
+
+-- the new copy that WRITTEN told of is that of the last record
+pub current_now : {V O : Type 0} (look : V → VolumeSeen) (desk : DeskState V O) (inlet : Received)
+    (task : Task) (made : Made) → IsTask look desk task → TaskMakes task made desk.shadow inlet
+    → (numbers_in task).written ≡ true → HasCurrent desk
+current_now look desk inlet task made begun makes is =
+    let s = task.stage in
+    let same = (altered (numbers_of s) task.answer.command).same in
+    let written = written_now (numbers_in task) s.drain task.copy task.capacity made desk.shadow
+    inlet is makes.made_is in
+    let current = subst
+    (λ (o : Option Stage). IsAsWritten o (Some written.shadow) (length desk.ground.log.records))
+    begun.stage
+    (subst
+    (λ (k : Option PreparedSeen). IsAsWritten desk.stage k (length desk.ground.log.records))
+    written.shadow_is begun.current) in
+    record {
+      shadow = written.shadow;
+      shadow_is = written.shadow_is;
+      current =
+          current (sym (ap (λ (v : Utility). v.written) same) ∙ is)
+          (sym (ap (λ (v : Utility). v.switched) same) ∙ makes.unswitched);
+    }
 
 pub sides_now : {V O : Type 0} (desk : DeskState V O) (inlet : Received) (task : Task) (made : Made)
     (sides : Sides) → Hears desk inlet → desk.stage ≡ Some task.stage

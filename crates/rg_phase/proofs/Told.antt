@@ -1,6 +1,6 @@
 -- What an event tells of the new copy is what is made of it.
 use Rattle.std.proofs.Common.{◌≡◌, inl, inr, ◌⊎◌, ℕ, Bool, true, false, Option, Some, None}
-use Rattle.std.proofs.Common.{if◌then◌else◌, [], refl, sym, ◌∙◌, ap, subst}
+use Rattle.std.proofs.Common.{if◌then◌else◌, [], length, refl, sym, ◌∙◌, ap, subst}
 use Rattle.std.specs.Prelude.{IfOk, IfSome, OnOk, Ok, Err}
 use Rattle.std.specs.declared.result.Result.{Result}
 use Rattle.rg_base.specs.declared.control.Answer.{Answer}
@@ -8,7 +8,8 @@ use Rattle.rg_base.specs.declared.options.DrainFor.{DrainFor}
 use Rattle.rg_base.specs.declared.options.DrainFor.TheVariants as what
 use Rattle.rg_base.specs.declared.session.Session.{Session}
 use Rattle.rg_base.specs.declared.step.Step.TheVariants as steps
-use Rattle.rg_desk.specs.Desk.{DeskState, MadeStep}
+use Rattle.rg_desk.specs.Desk.{DeskState, HasWritten, MadeStep, TellsWritten}
+use Rattle.rg_engine.specs.Room.{Ground}
 use Rattle.rg_base.specs.Copies.{other_of, set_of}
 use Rattle.rg_engine.specs.Flushed.{ReadsAll}
 use Rattle.rg_engine.specs.Prepared.{while_running}
@@ -116,6 +117,41 @@ tells_page look old new (Ok filled) (events.Switched to sides) is = absurd is
 tells_page look old new (Err fault) (events.Switched to sides) is = absurd is
 tells_page look old new made event is = tt
 
+-- ---- WRITTEN alone tells what was written
+
+-- another event asks for no new copy
+pub unwritten : {V O : Type 0} (desk : DeskState V O) (event : Event) → is_filling event ≡ false
+    → TellsWritten desk event
+unwritten desk (events.Written pages) unfilled = absurd (cc (unfilled))
+unwritten desk event unfilled = tt
+
+-- nor does the stop that stands in its place
+pub unwritten_or_stop : {V O : Type 0} (desk : DeskState V O) (event : Event)
+    (made : Result Unit ShadowFault) (result : Event) → is_filling event ≡ false
+    → IsEventOrStop event made result → TellsWritten desk result
+unwritten_or_stop desk event made result unfilled (inl is) =
+    subst (TellsWritten desk) (sym is.0) (unwritten desk event unfilled)
+unwritten_or_stop desk event made result unfilled (inr (inl is)) =
+    subst (TellsWritten desk) (sym is.0) tt
+unwritten_or_stop desk event made result unfilled (inr (inr is)) =
+    subst (TellsWritten desk) (sym is.0) tt
+
+-- nor does that of a page
+pub unwritten_page : {V O : Type 0} (desk : DeskState V O) (made : Result Filled ReloadFault)
+    (event : Event) → IsPageOf made event → TellsWritten desk event
+unwritten_page desk (Ok filled) (events.Written pages) is = absurd is
+unwritten_page desk (Err fault) (events.Written pages) is = absurd is
+unwritten_page desk made event is = tt
+
+pub tells_written : {V O : Type 0} (look : V → VolumeSeen) (desk : DeskState V O) (pages : ℕ)
+    → KeepsWritten look pages desk → HasWritten desk pages
+tells_written look desk pages keeps = record {
+  shadow = keeps.shadow;
+  shadow_is = keeps.shadow_is;
+  current = keeps.current;
+  pages_are = keeps.pages_are;
+}
+
 -- the new copy that was written is kept on
 pub written_kept : {V O : Type 0} (look : V → VolumeSeen) (old mid new : DeskState V O) (s : Stage)
     (answer : Answer) (granted : DrainFor) (pages : ℕ) → MakesStep s answer (steps.Write granted)
@@ -133,6 +169,8 @@ written_kept {V} {O} look old mid new s answer granted pages makes up stage wrot
       shadow_is =
           made.shadow ∙ ap (λ (o : Option Stage). while_running o mid.shadow) runs.1
           ∙ keeps.shadow_is;
+      current =
+          keeps.current ∙ ap (λ (g : Ground). length g.log.records) (sym made.ground.ground);
       pages_are = keeps.pages_are;
       reads =
           subst

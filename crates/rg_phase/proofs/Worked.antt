@@ -1,7 +1,7 @@
 -- What is made by the numbers that a step leaves, where the step has made its part.
 use Rattle.std.proofs.Common.{◌≡◌, ◌≤◌, ◌<◌, ◌+◌, ◌-◌, ℕ, List, [], ◌∷◌, Bool, true, false, Option}
 use Rattle.std.proofs.Common.{Some, None, length, nat_le, ◌*◌, ◌/◌, if◌then◌else◌, refl, sym, ◌∙◌}
-use Rattle.std.proofs.Common.{ap, subst}
+use Rattle.std.proofs.Common.{ap, subst, length-drop}
 use Rattle.std.proofs.Common.{arith}
 use Rattle.std.proofs.lemmas.List.Sorted.{length_permutation}
 use Rattle.std.specs.Prelude.{IfOk, OnOk, Ok, Err}
@@ -20,22 +20,25 @@ use Rattle.rg_laws_utility.specs.TraceStage.Tending.{IsForAll}
 use Rattle.rg_feed.specs.Ends.{Received}
 use Rattle.rg_feed.specs.Fold.Fold.{copied_rows, since_begin}
 use Rattle.rg_reload.specs.Order.{IsInOrder}
-use Rattle.rg_model.specs.Packed.{area_of, free_part, page_at}
+use Rattle.rg_model.specs.Packed.{area_of, free_part, page_at, page_count}
 use Rattle.rg_model.specs.State.{Utility}
 use Rattle.rg_model.specs.Turn.{nth_which}
 use Rattle.rg_reload.specs.Moved.{Moved, moved_from, moved_to, packed_rows}
 use Rattle.rg_reload.specs.Pages.{slots_on}
-use Rattle.rg_reload.specs.Reloading.{Fills, Reloading}
+use Rattle.rg_reload.proofs.Steps.{page_taken-high, page_taken-low}
+use Rattle.rg_reload.specs.Reloading.{Fills, Reloading, rows_left}
+use Rattle.rg_reload.specs.declared.fault.ReloadFault.{ReloadFault}
+use Rattle.rg_reload.specs.declared.fault.ReloadFault.TheVariants as reloads
 use Rattle.rg_reload.specs.declared.packer.Filled.{Filled}
 use Rattle.rg_shadow.specs.Shade.{Shade, stage_in, with_stage}
 use Rattle.rg_shadow.specs.declared.drafts.IndexStage.TheVariants.{Sorted, Built, Unsorted}
 use Rattle.rg_rules.specs.Stage.NumbersOf.{numbers_of}
-use Rattle.rg_phase.specs.Drafted.{IsDraftOf, IsPackingOf, SameRows}
+use Rattle.rg_phase.specs.Drafted.{IsDraftOf, IsPackingOf, LacksPageIfFull, SameRows}
 use Rattle.rg_phase.specs.Made.{Drafts, IsUnfilled, Keeps, Packs, PacksAlike, StepMakes, after_back}
 use Rattle.rg_phase.specs.Made.{after_build, after_reload, after_sort, after_take, after_write}
 use Rattle.rg_phase.specs.Made.{numbers_in}
 use Rattle.rg_phase.specs.Made.{stage_by}
-use Rattle.rg_phase.specs.Working.{IsDueAt, IsIndexed}
+use Rattle.rg_phase.specs.Working.{IsDueAt, IsIndexed, IsNextPage}
 use Rattle.rg_phase.specs.declared.draft.Draft.{Draft}
 use Rattle.rg_phase.specs.declared.draft.Packing.{Packing as ThePacking}
 use Rattle.rg_phase.specs.declared.made.Made.{Made}
@@ -166,6 +169,64 @@ moved_alike a b same k slot free (homed ∷ rows) =
 
 pub alike_back : (a b : Options) → PacksAlike a b → PacksAlike b a
 alike_back a b same = record { pctfree = sym same.pctfree; freepage = sym same.freepage }
+
+-- the numbers of the stage, where those of the step are as they say
+freepage_by : (task : Task) (options : Options) → PacksAlike options (numbers_in task).options
+    → options.freepage ≡ task.stage.options.freepage
+freepage_by task options alike =
+    let now = altered (numbers_of task.stage) task.answer.command in
+    alike.freepage ∙ ap (λ (v : Utility). v.options.freepage) now.same ∙ sym now.alike.freepage
+
+filled_in : (task : Task) → (numbers_in task).filled ≡ task.stage.filled
+filled_in task =
+    ap (λ (v : Utility). v.filled) (altered (numbers_of task.stage) task.answer.command).same
+
+-- the page is the next one of the stage
+pub page_by : (task : Task) (p : Reloading) (filled : Filled) (q : Reloading)
+    → Packs (numbers_in task) task.copy task.capacity p → Fills p filled q
+    → length p.rows ≡ (numbers_in task).unloaded
+    → IsNextPage task.stage task.capacity (Ok filled)
+page_by task p filled q packs fills rows =
+    let same = (altered (numbers_of task.stage) task.answer.command).same in
+    let pages : p.filled ≡ task.stage.filled = packs.filled ∙ filled_in task in
+    let freepage = freepage_by task p.options packs.alike in
+    let left : length (rows_left p) ≡ length p.rows - p.count = length-drop p.count p.rows in (
+      fills.page ∙ ap (λ (n : ℕ). page_at p.options.freepage (n + 1)) pages
+          ∙ ap (λ (f : ℕ). page_at f (task.stage.filled + 1)) freepage,
+      omega (
+        arith,
+        fills.rows,
+        page_taken-low p.options (rows_left p) (omega (arith, left, fills.rest)),
+      ),
+      omega (
+        arith,
+        fills.rows,
+        page_taken-high p.options (rows_left p),
+        left,
+        rows,
+        packs.placed,
+        ap (λ (v : Utility). v.unloaded) same,
+        ap (λ (v : Utility). v.reloaded) same,
+      ),
+      subst (λ (n : ℕ). n ≤ task.capacity)
+          (ap (λ (n : ℕ). page_count p.options.freepage (n + 1)) pages
+          ∙ ap (λ (f : ℕ). page_count f (task.stage.filled + 1)) freepage)
+          (subst (λ (n : ℕ). page_count p.options.freepage (p.filled + 1) ≤ n) packs.capacity_is
+          fills.within),
+    )
+
+-- or there is none for it
+pub none_by : (task : Task) (p : Reloading) (fault : ReloadFault)
+    → Packs (numbers_in task) task.copy task.capacity p → LacksPageIfFull p fault
+    → IsNextPage task.stage task.capacity (Err fault)
+none_by task p (reloads.NoSpace pages) packs lacks =
+    subst (λ (n : ℕ). task.capacity < n)
+    (ap (λ (n : ℕ). page_count p.options.freepage (n + 1)) (packs.filled ∙ filled_in task)
+    ∙ ap (λ (f : ℕ). page_count f (task.stage.filled + 1))
+    (freepage_by task p.options packs.alike))
+    (subst (λ (n : ℕ). n < page_count p.options.freepage (p.filled + 1)) packs.capacity_is
+    lacks.above)
+none_by task p reloads.NoMemory packs lacks = tt
 
 -- the page has the rows that it has by the options of the stage
 pub filled_by : (task : Task) (p : Reloading) (filled : Filled) (q : Reloading)

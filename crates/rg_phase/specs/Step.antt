@@ -8,7 +8,7 @@
 --    pages before and of these.
 -- 4. A step that writes the new copy, or switches to it, writes no page but those of the log and of
 --    the other copy. No other step calls the volume, nor one where no utility runs. At WRITTEN a
---    new copy is kept, of as many pages, which read so.
+--    new copy is kept, of as many pages, which read so, and the log has no record more since.
 -- 5. STOP DEVICE stands in it only where a call of the volume failed in this step, and only then
 --    does the step bring the desk down.
 -- 6. RELOAD fills a page only where it, and the empty one that is due after it, are among those
@@ -90,11 +90,13 @@ abbrev pub IsSwitchFrom : (copy : ℕ) → Event → Type 0
 IsSwitchFrom copy (events.Switched to sides) = to ≡ other_of copy
 IsSwitchFrom copy event = Unit {0}
 
--- a new copy of so many pages is kept, and they read as they are in memory
+-- a new copy of so many pages is kept that was written since the last record, and they read as they
+-- are in memory
 pub record KeepsWritten {V O : Type 0} (look : V → VolumeSeen) (pages : ℕ) (desk : DeskState V O)
     : Type 0 where
   pub shadow : PreparedSeen
   pub shadow_is : desk.shadow ≡ Some shadow
+  pub current : shadow.records ≡ length desk.ground.log.records
   pub pages_are : length shadow.shade.pages ≡ pages
   pub reads :
       IfTold (look desk.volume).told (ReadsAll (set_of (other_of desk.copy)) shadow.shade.pages)

@@ -1,5 +1,6 @@
 -- What a step makes before its entry.
-use Rattle.std.specs.Prelude.{◌≡◌, ◌⊎◌, ◌≤◌, ◌<◌, ℕ, Bool, true, false, [], Ok, Err, Option, is_err}
+use Rattle.std.specs.Prelude.{◌≡◌, ◌⊎◌, ◌≤◌, ◌<◌, ◌+◌, ◌-◌, ℕ, Bool, true, false, [], Ok, Err}
+use Rattle.std.specs.Prelude.{Option, is_err}
 use Rattle.std.specs.declared.result.Result.{Result}
 use Rattle.rg_laws_utility.specs.ByteAccount.Account.{allowed_of}
 use Rattle.rg_base.specs.declared.control.Answer.{Answer}
@@ -23,7 +24,9 @@ use Rattle.rg_model.specs.Right.{are_quiet_right, is_packed}
 use Rattle.rg_model.specs.State.{Table, Utility, row_of}
 use Rattle.rg_model.specs.Turn.{alter, is_term, step_of, turn_at}
 use Rattle.rg_phase.specs.Step.{is_device_stop}
+use Rattle.rg_model.specs.Packed.{page_at, page_count}
 use Rattle.rg_reload.specs.declared.fault.ReloadFault.{ReloadFault}
+use Rattle.rg_reload.specs.declared.fault.ReloadFault.TheVariants as reloads
 use Rattle.rg_reload.specs.declared.packer.Filled.{Filled}
 use Rattle.rg_shadow.specs.Shade.{shade_slots}
 use Rattle.rg_shadow.specs.declared.fault.ShadowFault.{ShadowFault}
@@ -118,6 +121,24 @@ abbrev pub takes : Event → Bool
 takes (events.Log iteration took left verdict) = true
 takes (events.Last took left) = true
 takes event = false
+
+-- The page that was filled is the next one of this stage, with one row at least and no more than
+-- are left, and the copy may have so many pages that it may have it, with the empty one due after
+-- it. Or the copy may not.
+abbrev pub IsNextPage : Stage → (capacity : ℕ) → Result Filled ReloadFault → Type 0
+IsNextPage stage capacity (Ok filled) =
+    (filled.page ≡ page_at stage.options.freepage (stage.filled + 1)) × (1 ≤ filled.rows)
+    × (filled.rows ≤ stage.unloaded - stage.reloaded)
+    × (page_count stage.options.freepage (stage.filled + 1) ≤ capacity)
+IsNextPage stage capacity (Err (reloads.NoSpace pages)) =
+    capacity < page_count stage.options.freepage (stage.filled + 1)
+IsNextPage stage capacity (Err reloads.NoMemory) = Unit {0}
+
+-- RELOAD of the page that was filled, or the stop where none could be
+abbrev pub reload_of : Result Filled ReloadFault → Event
+reload_of (Ok filled) = events.Reload filled.page filled.rows
+reload_of (Err (reloads.NoSpace pages)) = events.Stop reasons.NoSpace
+reload_of (Err reloads.NoMemory) = events.Stop reasons.NoMemory
 
 -- RELOAD of the page that was filled, or a stop
 abbrev pub IsPageOf : Result Filled ReloadFault → Event → Type 0

@@ -8,19 +8,17 @@
 //    of memory, the utility stops.
 // 5. The steps that copy or fill a page, write the new copy, or switch to it say themselves what
 //    became of it.
-// 6. A page is filled only where the other copy may have it, with the empty one that is due after
-//    it. Where it may not, the utility stops.
-ghost use Rattle.std.specs.Prelude.{ℕ, ◌≡◌, ◌≤◌, ◌<◌, ◌+◌, false, true, Ok, IfSome, IsNone};
+// 6. RELOAD tells the page that the packer has filled, which is the next one. Where the other copy
+//    may not have that, with the empty one that is due after it, the utility stops.
+ghost use Rattle.std.specs.Prelude.{◌≡◌, ◌≤◌, false, true, IfSome, IsNone};
 ghost use Rattle.rg_model.specs.Turn.{step_of, turn_at, turn_of};
-ghost use Rattle.rg_model.specs.Packed.{page_count};
-ghost use Rattle.rg_phase.specs.Step.{HasPagesFor, is_device_stop};
-ghost use Rattle.rg_phase.specs.Working.{IsEventOrStop, IsOver, IsPageOf, IsReloadEvent, MakesStep};
-ghost use Rattle.rg_phase.specs.Working.{is_filling, takes};
+ghost use Rattle.rg_phase.specs.Step.{is_device_stop};
+ghost use Rattle.rg_phase.specs.Working.{IsEventOrStop, IsOver, MakesStep, is_filling, reload_of};
+ghost use Rattle.rg_phase.specs.Working.{takes};
 ghost use Rattle.rg_rules.specs.Stage.NumbersOf.{numbers_of};
 ghost use Rattle.rg_laws_utility.specs.TraceStage.Tending.{is_booked, is_plain};
 
 use rg_base::control::Answer;
-use rg_base::no_memory::NoMemory;
 use rg_base::session::Session;
 use rg_base::step::Step;
 use rg_base::verdict::StopReason;
@@ -31,7 +29,6 @@ use rg_rules::stage::events::{
     build_event, last_batch, last_event, log_batch, log_event, sort_event, wait_event,
 };
 use rg_rules::stage::step::{is_terminated, step_for, with_alter};
-use rg_rules::tally::pages::{page_at, page_count};
 use rg_shadow::fault::ShadowFault;
 use rg_stmt::event::Event;
 
@@ -107,52 +104,14 @@ pub fn or_stop(event: Event, made: Result<(), ShadowFault>) -> Event
     }
 }
 
-// Whether the other copy may have the next page, and the empty one that is due after it.
-fn has_page(stage: &Stage, capacity: u32) -> Result<bool, NoMemory>
-    ensures yes { result ≡ Ok true
-        → page_count stage.now.options.freepage (stage.now.filled + 1) ≤ capacity }
-    ensures no { result ≡ Ok false
-        → capacity < page_count stage.now.options.freepage (stage.now.filled + 1) }
-{
-    let pages = page_count(stage.options.freepage, u64::from(stage.filled) + 1)?;
-    Ok(pages <= u64::from(capacity))
-}
-
-// RELOAD of a page that was filled, as the numbers ask for it. Else the utility stops.
-fn page_event(stage: &Stage, capacity: u32, filled: &Filled) -> Event
-    requires page { page_count stage.now.options.freepage (stage.now.filled + 1) ≤ capacity }
-    requires unswitched { stage.now.switched ≡ false }
-    requires left { stage.now.reloaded < stage.now.unloaded }
-    ensures event { IsReloadEvent stage.now result }
-    ensures space { (weight : ℕ) → HasPagesFor capacity weight stage.now result }
-    ensures told { IsPageOf (Ok filled.now) result }
-{
-    let Ok(next) = page_at(stage.options.freepage, u64::from(stage.filled) + 1) else {
-        return Event::Stop(StopReason::NoMemory);
-    };
-    let left = stage.unloaded.saturating_sub(stage.reloaded);
-    let rows = u64::from(filled.rows);
-    if u64::from(filled.page) == next && 1 <= rows && rows <= left {
-        return Event::Reload {
-            page: filled.page,
-            rows: filled.rows,
-        };
-    }
-    Event::Stop(StopReason::NoMemory)
-}
-
 /// RELOAD of the page that was filled, or the stop where none could be: STOP NOSPACE where the new
-/// copy may have no page more, else STOP NOMEMORY. The new copy may have `capacity` pages.
-pub fn reload_event(stage: &Stage, capacity: u32, made: Result<Filled, ReloadFault>) -> Event
-    requires unswitched { stage.now.switched ≡ false }
-    requires left { stage.now.reloaded < stage.now.unloaded }
-    ensures event { IsReloadEvent stage.now result }
-    ensures space { (weight : ℕ) → HasPagesFor capacity weight stage.now result }
-    ensures told { IsPageOf made result }
+/// copy may have no page more, else STOP NOMEMORY.
+pub fn reload_event(made: Result<Filled, ReloadFault>) -> Event
+    ensures { result ≡ reload_of made }
 {
-    match (made, has_page(stage, capacity)) {
-        (Ok(filled), Ok(true)) => page_event(stage, capacity, &filled),
-        (Err(ReloadFault::NoSpace { .. }), Ok(false)) => Event::Stop(StopReason::NoSpace),
-        _ => Event::Stop(StopReason::NoMemory),
+    match made {
+        Ok(Filled { page, rows }) => Event::Reload { page, rows },
+        Err(ReloadFault::NoSpace { .. }) => Event::Stop(StopReason::NoSpace),
+        Err(ReloadFault::NoMemory) => Event::Stop(StopReason::NoMemory),
     }
 }

@@ -10,7 +10,8 @@
 //    Before the first list is sorted the new copy is loaded. In LOG and LAST the next changes are
 //    made in it, after those that the stage counts.
 // 6. It is written whole, with a sync at the end, before WRITTEN is said, once no change is left.
-//    The desk keeps it for the switch. At GIVEUP it is taken back.
+//    The desk keeps it for the switch. At GIVEUP it is taken back. Under a drain nobody writes, so
+//    no change is left then and the log has no record more at the switch.
 // 7. An entry tells what was made: RELOAD the rows of its page, SORT and BUILD their index, LOG and
 //    LAST how many changes.
 // 8. What is made is what the numbers of the utility say. So no step asks for it, and what is made
@@ -31,7 +32,7 @@ ghost use Rattle.rg_phase.specs.Made.{StepMakes, after_back, after_take, after_w
 ghost use Rattle.rg_phase.specs.declared.made.Made.{Made};
 ghost use Rattle.rg_phase.specs.Step.{Acts, KeepsWritten, Stepped};
 ghost use Rattle.rg_phase.specs.Working.{AreSidesToSwitch, IsDueAt, IsOver, MakesStep, Writes};
-ghost use Rattle.rg_phase.specs.Working.{IsIndexed, is_filling};
+ghost use Rattle.rg_phase.specs.Working.{IsIndexed, IsNextPage, is_filling};
 ghost use Rattle.rg_phase.specs.declared.made.Made.TheVariants.{Nothing};
 ghost use Rattle.rg_laws_utility.specs.CopyWeight.Weighed.{weigh_feed};
 ghost use Rattle.rg_laws_utility.specs.TraceStage.Tending.{IsForAll, is_booked, is_plain};
@@ -174,7 +175,7 @@ impl Reorg {
         ensures works { Works V.seen self.new.made inlet.new desk.new }
     {
         let filled = self.fill(alloc, inlet, task);
-        let event = reload_event(&task.stage, task.capacity, filled);
+        let event = reload_event(filled);
         desk.book(event, Some(task.answer));
     }
 
@@ -287,6 +288,7 @@ impl Reorg {
             task.now.capacity self.new.made None inlet.now) }
         ensures filled { IfOk result
             (λ filled. IsFilled task.now.stage.options self.new.made filled.page filled.rows) }
+        ensures page { IsNextPage task.now.stage task.now.capacity result }
     {
         let mut packing = self.take_packing(alloc, inlet, task)?;
         let filled = packing.fill()?;
@@ -460,9 +462,6 @@ impl Reorg {
             Made::Drafted(draft) => draft,
             Made::Written(_) => unreachable!(),
         };
-        if inlet.backlog() > 0 {
-            return Err(PrepareCause::NoMemory);
-        }
         let pages = draft.count();
         let Draft { shadow, options } = draft;
         match desk.prepare_switch(alloc, shadow) {
@@ -493,8 +492,8 @@ impl Reorg {
         }
     }
 
-    // The layouts of both copies, where the new one that was written is caught up with all changes,
-    // and the log has no record more since.
+    // The layouts of both copies. The new one that was written is caught up with all changes, and
+    // the log has no record more since.
     fn sides<V: Counts, O: Operator>(
         &self,
         desk: &mut Desk<V, O>,
@@ -509,9 +508,6 @@ impl Reorg {
         ensures same { desk.new ≡ desk.old }
         ensures sides { IfOk result (AreSidesToSwitch desk.old task.entry.now.stage) }
     {
-        if inlet.backlog() > 0 || !desk.is_current() {
-            return Err(NoMemory);
-        }
         desk.sides()
     }
 }

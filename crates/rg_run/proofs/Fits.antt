@@ -33,9 +33,11 @@ use Rattle.rg_stmt.specs.declared.stmt.Reply.{Reply}
 use Rattle.rg_stmt.specs.declared.stmt.Reply.TheVariants.{Device}
 use Rattle.rg_stmt.specs.declared.stmt.Stmt.{Stmt}
 use Rattle.rg_stmt.specs.declared.stmt.Stmt.TheVariants.{Commit}
-use Rattle.rg_run.specs.Fit.{FailedSince, FailedThen, FitFrom, FitSince, FitsThen, HasPages}
+use Rattle.rg_model.specs.Changes.{unit_writes, unit_writes_after}
+use Rattle.rg_model.specs.Run.{behind}
+use Rattle.rg_run.specs.Fit.{FailedSince, FailedThen, FitFrom, FitSince, FitsThen, ReadsPages}
 use Rattle.rg_run.specs.Fit.{HasSide, IfClean, Known, WroteThen, calls_of_last, copy_after}
-use Rattle.rg_run.specs.Fit.{known_after, known_of, unopened}
+use Rattle.rg_run.specs.Fit.{known_after, known_of, unopened, writes_of}
 use Rattle.rg_run.specs.Played.{IsFlushed, IsOpenedEntry, IsStartEvent, IsStepEvent, TraceOf}
 
 -- what holds of every known volume
@@ -68,19 +70,20 @@ IfShown P (events.Layout copy side) = P side
 IfShown P event = Unit {0}
 
 pub layout_tells : (copy : ℕ) (event : Event) → IsLayout copy event
-    → (k : Known) (start before calls : ℕ) (t : Told) → calls ≡ before
+    → (k : Known) (own start before calls : ℕ) (t : Told) → calls ≡ before
     → IfShown (λ side. IfClean k.clean (HasSide k.copy start calls side t)) event
-    → FitsThen k start before calls t event
-layout_tells copy (events.Flush page) is k start before calls t same shown = absurd is
-layout_tells copy events.FlushDevice is k start before calls t same shown = absurd is
-layout_tells copy (events.Said stmt reply) is k start before calls t same shown = absurd is
-layout_tells copy (events.Stop reason) is k start before calls t same shown = absurd is
-layout_tells copy (events.Switched to sides) is k start before calls t same shown = absurd is
-layout_tells copy (events.Written pages) is k start before calls t same shown = absurd is
-layout_tells copy (events.Opened opened rows pages used) is k start before calls t same shown =
+    → FitsThen k own start before calls t event
+layout_tells copy (events.Flush page) is k own start before calls t same shown = absurd is
+layout_tells copy events.FlushDevice is k own start before calls t same shown = absurd is
+layout_tells copy (events.Said stmt reply) is k own start before calls t same shown = absurd is
+layout_tells copy (events.Stop reason) is k own start before calls t same shown = absurd is
+layout_tells copy (events.Switched to sides) is k own start before calls t same shown = absurd is
+layout_tells copy (events.Written pages) is k own start before calls t same shown = absurd is
+layout_tells copy (events.Opened opened rows pages used) is k own start before calls t same shown =
     absurd is
-layout_tells copy (events.Layout of_copy side) is k start before calls t same shown = (same, shown)
-layout_tells copy event is k start before calls t same shown = same
+layout_tells copy (events.Layout of_copy side) is k own start before calls t same shown =
+    (same, shown)
+layout_tells copy event is k own start before calls t same shown = same
 
 pub flushed_keeps : (event : Event) → IsFlushed event → (k : ℕ) → copy_after k event ≡ k
 flushed_keeps (events.Opened opened rows pages used) is k = absurd is
@@ -94,18 +97,18 @@ start_keeps options (events.Switched to sides) is k = absurd is
 start_keeps options event is k = refl
 
 pub start_tells : (options : Options) (event : Event) → IsStartEvent options event
-    → (k : Known) (start before calls : ℕ) (t : Told) → calls ≡ before
-    → FitsThen k start before calls t event
-start_tells options (events.Flush page) is k start before calls t same = absurd is
-start_tells options events.FlushDevice is k start before calls t same = absurd is
-start_tells options (events.Said stmt reply) is k start before calls t same = absurd is
-start_tells options (events.Stop reason) is k start before calls t same = absurd is
-start_tells options (events.Switched to sides) is k start before calls t same = absurd is
-start_tells options (events.Written pages) is k start before calls t same = absurd is
-start_tells options (events.Opened opened rows pages used) is k start before calls t same =
+    → (k : Known) (own start before calls : ℕ) (t : Told) → calls ≡ before
+    → FitsThen k own start before calls t event
+start_tells options (events.Flush page) is k own start before calls t same = absurd is
+start_tells options events.FlushDevice is k own start before calls t same = absurd is
+start_tells options (events.Said stmt reply) is k own start before calls t same = absurd is
+start_tells options (events.Stop reason) is k own start before calls t same = absurd is
+start_tells options (events.Switched to sides) is k own start before calls t same = absurd is
+start_tells options (events.Written pages) is k own start before calls t same = absurd is
+start_tells options (events.Opened opened rows pages used) is k own start before calls t same =
     absurd is
-start_tells options (events.Layout copy side) is k start before calls t same = absurd is
-start_tells options event is k start before calls t same = same
+start_tells options (events.Layout copy side) is k own start before calls t same = absurd is
+start_tells options event is k own start before calls t same = same
 
 pub step_copy : (answer : Option Answer) (event : Event) → IsStepEvent answer event → (k : ℕ)
     → copy_after k event ≡ copy_left k event
@@ -124,38 +127,43 @@ IfWritten P (events.Written pages) = P pages
 IfWritten P event = Unit {0}
 
 pub step_tells : (answer : Option Answer) (event : Event) → IsStepEvent answer event
-    → (told : Option Told) (k : Known) (since calls : ℕ)
+    → (told : Option Told) (k : Known) (own since calls : ℕ)
     → (is_device_stop event ≡ true → IfTold told (λ t. FailedThen t.start since calls t))
     → (may_call event ≡ false → IfTold told (λ t. calls ≡ since))
     → IfSwitched
     (λ to sides. IfTold told
     (λ t. HasSide to t.start since sides.new t × HasSide to t.start calls sides.new t)) event
-    → IfWritten (λ pages. IfTold told (λ t. HasPages (other_of k.copy) t.start calls pages t)) event
-    → IfTold told (λ t. FitsThen k t.start since calls t event)
-step_tells None (events.Flush page) is told k since calls failed quiet turned wrote = absurd is
-step_tells (Some answer) (events.Flush page) is told k since calls failed quiet turned wrote =
+    → IfWritten (λ pages. IfTold told (λ t. ReadsPages (other_of k.copy) t.start calls pages t))
+    event
+    → IfTold told (λ t. FitsThen k own t.start since calls t event)
+step_tells None (events.Flush page) is told k own since calls failed quiet turned wrote = absurd is
+step_tells (Some answer) (events.Flush page) is told k own since calls failed quiet turned wrote =
     absurd (cc (is))
-step_tells None events.FlushDevice is told k since calls failed quiet turned wrote = absurd is
-step_tells (Some answer) events.FlushDevice is told k since calls failed quiet turned wrote =
+step_tells None events.FlushDevice is told k own since calls failed quiet turned wrote = absurd is
+step_tells (Some answer) events.FlushDevice is told k own since calls failed quiet turned wrote =
     absurd (cc (is))
-step_tells None (events.Said stmt reply) is told k since calls failed quiet turned wrote = absurd is
-step_tells (Some answer) (events.Said stmt reply) is told k since calls failed quiet turned wrote =
-    absurd (cc (is))
-step_tells None (events.Layout copy side) is told k since calls failed quiet turned wrote =
+step_tells None (events.Said stmt reply) is told k own since calls failed quiet turned wrote =
     absurd is
-step_tells (Some answer) (events.Layout copy side) is told k since calls failed quiet turned wrote =
+step_tells (Some answer) (events.Said stmt reply) is told k own since calls failed quiet turned
+    wrote =
     absurd (cc (is))
-step_tells None (events.Stop reason) is told k since calls failed quiet turned wrote = absurd is
-step_tells (Some answer) (events.Stop reasons.Device) is told k since calls failed quiet turned
+step_tells None (events.Layout copy side) is told k own since calls failed quiet turned wrote =
+    absurd is
+step_tells (Some answer) (events.Layout copy side) is told k own since calls failed quiet turned
+    wrote =
+    absurd (cc (is))
+step_tells None (events.Stop reason) is told k own since calls failed quiet turned wrote = absurd is
+step_tells (Some answer) (events.Stop reasons.Device) is told k own since calls failed quiet turned
     wrote = failed refl
-step_tells answer (events.Switched to sides) is told k since calls failed quiet turned wrote =
+step_tells answer (events.Switched to sides) is told k own since calls failed quiet turned wrote =
     turned
-step_tells answer (events.Written pages) is told k since calls failed quiet turned wrote = wrote
-step_tells None (events.Opened opened rows pages used) is told k since calls failed quiet turned
+step_tells answer (events.Written pages) is told k own since calls failed quiet turned wrote = wrote
+step_tells None (events.Opened opened rows pages used) is told k own since calls failed quiet turned
     wrote = absurd is
-step_tells (Some answer) (events.Opened opened rows pages used) is told k since calls failed quiet
+step_tells (Some answer) (events.Opened opened rows pages used) is told k own since calls failed
+    quiet
     turned wrote = absurd (cc (is))
-step_tells answer event is told k since calls failed quiet turned wrote = quiet refl
+step_tells answer event is told k own since calls failed quiet turned wrote = quiet refl
 
 -- what the switch leaves reads so
 pub switched_then : (to calls : ℕ) (side : Side) (contents : List Content) (seen : VolumeSeen)
@@ -181,10 +189,10 @@ switched_then to calls side contents seen count reads is =
 -- so do the pages of a copy that was written
 pub written_then : (copy calls count : ℕ) (contents : List Content) (seen : VolumeSeen)
     → IsCount seen calls → IfTold seen.told (ReadsAll (set_of copy) contents)
-    → length contents ≡ count → IfTold seen.told (λ t. HasPages copy t.start calls count t)
+    → length contents ≡ count → IfTold seen.told (λ t. ReadsPages copy t.start calls count t)
 written_then copy calls count contents seen counted reads is =
     told_weaken (λ t. (length t.calls ≡ t.start + calls) × ReadsAll (set_of copy) contents t)
-    (λ t. HasPages copy t.start calls count t) seen.told
+    (λ t. ReadsPages copy t.start calls count t) seen.told
     (λ t both.
     let all : length t.calls - (t.start + calls) ≡ 0 = omega (arith, both.0) in
     record {
@@ -199,14 +207,22 @@ written_then copy calls count contents seen counted reads is =
     (told_both (λ t. length t.calls ≡ t.start + calls) (ReadsAll (set_of copy) contents) seen.told
     counted reads)
 
-pub said_tells : (stmt : Stmt) (reply : Reply) (told : Option Told) (k : Known) (since calls : ℕ)
+-- what is so where a number is 0 is so of each that is told
+if_zero : (told : Option Told) (n : ℕ) (P : Told → Type 0) → (n ≡ 0 → IfTold told P)
+    → IfTold told (λ t. n ≡ 0 → P t)
+if_zero None n P holds = tt
+if_zero (Some t) n P holds = holds
+
+pub said_tells : (stmt : Stmt) (reply : Reply) (told : Option Told) (k : Known)
+    (own since calls : ℕ)
     → (reply ≡ Device → IfTold told (λ t. FailedThen t.start since calls t))
     → (is_commit stmt ≡ false → IfTold told (λ t. calls ≡ since))
-    → IfTold told (λ t. FitsThen k t.start since calls t (events.Said stmt reply))
-said_tells stmt Device told k since calls failed quiet = failed refl
-said_tells Commit reply told k since calls failed quiet =
-    told_all told (λ t. FitsThen k t.start since calls t (events.Said Commit reply)) (λ t. tt)
-said_tells stmt reply told k since calls failed quiet = quiet refl
+    → (own ≡ 0 → IfTold told (λ t. calls ≡ since))
+    → IfTold told (λ t. FitsThen k own t.start since calls t (events.Said stmt reply))
+said_tells stmt Device told k own since calls failed quiet idle = failed refl
+said_tells Commit reply told k own since calls failed quiet idle =
+    if_zero told own (λ t. calls ≡ since) idle
+said_tells stmt reply told k own since calls failed quiet idle = quiet refl
 
 -- ---- parts
 
@@ -232,22 +248,31 @@ fit_join start t k before lines [] [] of all more = tt
 fit_join start t k before lines [] (e ∷ es) of all more =
     opened_from unopened k start 0 before t e es of.0 more
 fit_join start t k before lines (e ∷ older) part of all more =
-    (all.0, fit_join start t (known_after k e.event) e.calls lines older part of all.1 more)
+    (all.0, fit_join start t (known_after k e) e.calls lines older part of all.1 more)
 
 -- ---- one entry more
 
 pub fit_push : (k : Known) (start before : ℕ) (t : Told) (trace : List Entry) (entry : Entry)
     → FitFrom k start before t trace
-    → FitsThen (known_of k trace) start (calls_of_last before trace) entry.calls t entry.event
+    → FitsThen (known_of k trace) (writes_of (known_of k trace) entry.actor) start
+    (calls_of_last before trace) entry.calls t entry.event
     → FitFrom k start before t (trace ++ entry ∷ [])
 fit_push k start before t [] entry all one = (one, tt)
 fit_push k start before t (e ∷ es) entry all one =
-    (all.0, fit_push (known_after k e.event) start e.calls t es entry all.1 one)
+    (all.0, fit_push (known_after k e) start e.calls t es entry all.1 one)
 
 pub known_push : (k : Known) (trace : List Entry) (entry : Entry)
-    → known_of k (trace ++ entry ∷ []) ≡ known_after (known_of k trace) entry.event
+    → known_of k (trace ++ entry ∷ []) ≡ known_after (known_of k trace) entry
 known_push k [] entry = refl
-known_push k (e ∷ es) entry = known_push (known_after k e.event) es entry
+known_push k (e ∷ es) entry = known_push (known_after k e) es entry
+
+-- how many writes each unit has made is told by the entries alone
+pub writes_known : (k : Known) (past trace : List Entry) (session : ℕ)
+    → k.writes session ≡ unit_writes session past
+    → (known_of k trace).writes session ≡ unit_writes session (behind past trace)
+writes_known k past [] session is = is
+writes_known k past (e ∷ es) session is = writes_known (known_after k e) (e ∷ past) es session
+    (ap (unit_writes_after session e.actor e.event) is)
 
 pub calls_push : (calls : ℕ) (trace : List Entry) (entry : Entry)
     → calls_of_last calls (trace ++ entry ∷ []) ≡ entry.calls
@@ -307,8 +332,8 @@ side_on copy start calls side before fresh is =
     }
 
 pages_on : (copy start calls count : ℕ) (before : Told) (fresh : List Call)
-    → HasPages copy start calls count before
-    → HasPages copy start calls count (record before { calls = fresh ++ before.calls })
+    → ReadsPages copy start calls count before
+    → ReadsPages copy start calls count (record before { calls = fresh ++ before.calls })
 pages_on copy start calls count before fresh is =
     let high = is.high in
     let longer = length-append fresh before.calls in
@@ -340,10 +365,11 @@ side_before Kind copy since side (Some before) (Some after) made has =
     subst (λ (t : Told). HasSide copy t.start since side t) (sym is)
     (side_on copy before.start since side before made.1 has)
 
-event_on : (k : Known) (start since calls : ℕ) (before : Told) (fresh : List Call) (event : Event)
-    → FitsThen k start since calls before event
-    → FitsThen k start since calls (record before { calls = fresh ++ before.calls }) event
-event_on k start since calls before fresh (events.Flush page) is =
+event_on : (k : Known) (own start since calls : ℕ) (before : Told) (fresh : List Call)
+    (event : Event)
+    → FitsThen k own start since calls before event
+    → FitsThen k own start since calls (record before { calls = fresh ++ before.calls }) event
+event_on k own start since calls before fresh (events.Flush page) is =
     let high = is.high in
     let longer = length-append fresh before.calls in
     record {
@@ -353,33 +379,33 @@ event_on k start since calls before fresh (events.Flush page) is =
       rest = is.rest;
       last = calls_then before fresh (start + calls) is.high ∙ is.last;
     }
-event_on k start since calls before fresh events.FlushDevice is =
+event_on k own start since calls before fresh events.FlushDevice is =
     failed_on start since calls before fresh is
-event_on k start since calls before fresh (events.Said stmt Device) is =
+event_on k own start since calls before fresh (events.Said stmt Device) is =
     failed_on start since calls before fresh is
-event_on k start since calls before fresh (events.Stop reasons.Device) is =
+event_on k own start since calls before fresh (events.Stop reasons.Device) is =
     failed_on start since calls before fresh is
-event_on k start since calls before fresh (events.Layout copy side) is = (
+event_on k own start since calls before fresh (events.Layout copy side) is = (
   is.0,
   clean_more (HasSide k.copy start calls side before)
       (HasSide k.copy start calls side (record before { calls = fresh ++ before.calls })) k.clean
       (side_on k.copy start calls side before fresh) is.1,
 )
-event_on k start since calls before fresh (events.Switched to sides) is = (
+event_on k own start since calls before fresh (events.Switched to sides) is = (
   side_on to start since sides.new before fresh is.0,
   side_on to start calls sides.new before fresh is.1,
 )
-event_on k start since calls before fresh (events.Written pages) is =
+event_on k own start since calls before fresh (events.Written pages) is =
     pages_on (other_of k.copy) start calls pages before fresh is
-event_on k start since calls before fresh event is = is
+event_on k own start since calls before fresh event is = is
 
 each_on : (k : Known) (start since : ℕ) (before : Told) (fresh : List Call) (trace : List Entry)
     → FitFrom k start since before trace
     → FitFrom k start since (record before { calls = fresh ++ before.calls }) trace
 each_on k start since before fresh [] all = tt
 each_on k start since before fresh (e ∷ es) all = (
-  event_on k start since e.calls before fresh e.event all.0,
-  each_on (known_after k e.event) start e.calls before fresh es all.1,
+  event_on k (writes_of k e.actor) start since e.calls before fresh e.event all.0,
+  each_on (known_after k e) start e.calls before fresh es all.1,
 )
 
 pub fit_on : (Kind : Call → Type 0) (old new : Option Told) (k : Known) (since : ℕ)
@@ -401,37 +427,37 @@ recounted_side : (copy start calls count : ℕ) (side : Side) (t : Told)
 recounted_side copy start calls count side t is =
     record { high = is.high; pages = is.pages; side_is = is.side_is; reads = is.reads }
 
-recounted_event : (k : Known) (start since calls count : ℕ) (t : Told) (event : Event)
-    → FitsThen k start since calls (record t { start = count }) event
-    → FitsThen k start since calls t event
-recounted_event k start since calls count t (events.Flush page) is =
+recounted_event : (k : Known) (own start since calls count : ℕ) (t : Told) (event : Event)
+    → FitsThen k own start since calls (record t { start = count }) event
+    → FitsThen k own start since calls t event
+recounted_event k own start since calls count t (events.Flush page) is =
     record { high = is.high; since = is.since; bytes = is.bytes; rest = is.rest; last = is.last }
-recounted_event k start since calls count t events.FlushDevice is =
+recounted_event k own start since calls count t events.FlushDevice is =
     record { high = is.high; since = is.since; failed = is.failed }
-recounted_event k start since calls count t (events.Said stmt Device) is =
+recounted_event k own start since calls count t (events.Said stmt Device) is =
     record { high = is.high; since = is.since; failed = is.failed }
-recounted_event k start since calls count t (events.Stop reasons.Device) is =
+recounted_event k own start since calls count t (events.Stop reasons.Device) is =
     record { high = is.high; since = is.since; failed = is.failed }
-recounted_event k start since calls count t (events.Layout copy side) is = (
+recounted_event k own start since calls count t (events.Layout copy side) is = (
   is.0,
   clean_more (HasSide k.copy start calls side (record t { start = count }))
       (HasSide k.copy start calls side t) k.clean (recounted_side k.copy start calls count side t)
       is.1,
 )
-recounted_event k start since calls count t (events.Switched to sides) is = (
+recounted_event k own start since calls count t (events.Switched to sides) is = (
   recounted_side to start since count sides.new t is.0,
   recounted_side to start calls count sides.new t is.1,
 )
-recounted_event k start since calls count t (events.Written pages) is =
+recounted_event k own start since calls count t (events.Written pages) is =
     record { high = is.high; pages = is.pages; count_is = is.count_is; reads = is.reads }
-recounted_event k start since calls count t event is = is
+recounted_event k own start since calls count t event is = is
 
 pub recounted : (k : Known) (start since count : ℕ) (t : Told) (trace : List Entry)
     → FitFrom k start since (record t { start = count }) trace → FitFrom k start since t trace
 recounted k start since count t [] all = tt
 recounted k start since count t (e ∷ es) all = (
-  recounted_event k start since e.calls count t e.event all.0,
-  recounted (known_after k e.event) start e.calls count t es all.1,
+  recounted_event k (writes_of k e.actor) start since e.calls count t e.event all.0,
+  recounted (known_after k e) start e.calls count t es all.1,
 )
 
 -- ---- a flush
@@ -540,24 +566,27 @@ calls_of_part calls lines [] (e ∷ es) of = refl
 calls_of_part calls lines (o ∷ older) part of = calls_of_part o.calls lines older part of
 
 -- what its event tells, by what it did
-pub flush_then : (Kind : Call → Type 0) (down : Bool) (k : Known) (contents : List Content)
+pub flush_then : (Kind : Call → Type 0) (down : Bool) (k : Known) (own : ℕ)
+    (contents : List Content)
     (marks later : List (Option Position)) (old new : VolumeSeen) (since calls : ℕ) (event : Event)
     → EachCall old.told new.told Kind → IsCount old since → IsCount new calls
     → (Rose old.faults new.faults → IfTold new.told (λ t. FailedThen t.start since calls t))
     → FlushIs down k.copy contents marks later old new event
-    → IfTold new.told (λ t. FitsThen k t.start since calls t event)
-flush_then Kind true k contents marks later old new since calls event made was now failed is =
-    told_weaken (λ t. calls ≡ since) (λ t. FitsThen k t.start since calls t event) new.told
-    (λ t same. subst (FitsThen k t.start since calls t) (sym is.0) same)
+    → IfTold new.told (λ t. FitsThen k own t.start since calls t event)
+flush_then Kind true k own contents marks later old new since calls event made was now failed is =
+    told_weaken (λ t. calls ≡ since) (λ t. FitsThen k own t.start since calls t event) new.told
+    (λ t same. subst (FitsThen k own t.start since calls t) (sym is.0) same)
     (no_call old new since calls was now is.1)
-flush_then Kind false k contents marks later old new since calls (events.Flush page) made was now
+flush_then Kind false k own contents marks later old new since calls (events.Flush page) made was
+    now
     failed is = wrote_then Kind k.copy page since calls (content_at contents page) old.told new.told
     made was now is.2
-flush_then Kind false k contents marks later old new since calls events.Clean made was now failed
+flush_then Kind false k own contents marks later old new since calls events.Clean made was now
+    failed
     is = no_call old new since calls was now is.1
-flush_then Kind false k contents marks later old new since calls events.FlushDevice made was now
+flush_then Kind false k own contents marks later old new since calls events.FlushDevice made was now
     failed is = failed is.0
-flush_then Kind false k contents marks later old new since calls events.FlushNoMemory made was
+flush_then Kind false k own contents marks later old new since calls events.FlushNoMemory made was
     now failed is = no_call old new since calls was now is.0
-flush_then Kind false k contents marks later old new since calls event made was now failed is =
+flush_then Kind false k own contents marks later old new since calls event made was now failed is =
     absurd is

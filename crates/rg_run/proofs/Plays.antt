@@ -62,9 +62,9 @@ use Rattle.rg_outside.proofs.Frame.{calls_join, calls_weaken, no_calls}
 use Rattle.rg_run.specs.Asked.{HasAnswered, answer_before, answers_in}
 use Rattle.rg_outside.specs.Calls.{Call, Told}
 use Rattle.rg_outside.specs.Made.{CountsFailed}
-use Rattle.rg_run.specs.Fit.{FailedThen, FitSince, FitsThen, HasPages, HasSide, IfClean, Known}
+use Rattle.rg_run.specs.Fit.{FailedThen, FitSince, FitsThen, ReadsPages, HasSide, IfClean, Known}
 use Rattle.rg_run.specs.Fit.{calls_of_last, clean_after, copy_after, known_after, known_of}
-use Rattle.rg_run.specs.Fit.{unopened}
+use Rattle.rg_run.specs.Fit.{unopened, writes_of}
 use Rattle.rg_run.specs.Full.{AreAllowed, IsAllowedAt, smaller_pages}
 use Rattle.rg_run.specs.LogFull.{IsLogFullFrom, IsLogFullOnlyFrom}
 use Rattle.rg_run.specs.Outside.{IsDeviceIf, IsDeviceOnlyIf, WritesOwn}
@@ -85,7 +85,7 @@ use Rattle.rg_run.proofs.Fits.{IfShown, IfSwitched, IfWritten, calls_push, faile
 use Rattle.rg_run.proofs.Fits.{fit_on, fit_push, flush_then, flushed_keeps, known_push}
 use Rattle.rg_run.proofs.Fits.{layout_keeps, layout_tells, no_call, opened_alone, said_tells}
 use Rattle.rg_run.proofs.Fits.{side_before, start_keeps, start_tells, step_copy, step_tells}
-use Rattle.rg_run.proofs.Fits.{switched_then, told_all, written_then}
+use Rattle.rg_run.proofs.Fits.{switched_then, told_all, writes_known, written_then}
 
 entries_push : (lines : List Line) (entries : List Entry) (line : Line) (entry : Entry)
     → AllZip EntryOf lines entries → EntryOf line entry
@@ -475,7 +475,7 @@ module _ {V O : Type 0} {answers : O → Option (List Answer)} (look : V → Vol
   CleanSide calls t side = IfClean known.clean (HasSide known.copy t.start calls side t)
 
   known_on : (entry : Entry) → new.trace ≡ old.trace ++ entry ∷ []
-      → known_of unopened new.trace ≡ known_after known entry.event
+      → known_of unopened new.trace ≡ known_after known entry
   known_on entry made = ap (known_of unopened) made ∙ known_push unopened old.trace entry
 
   on : (line : Line) (entry : Entry) → new.trace ≡ old.trace ++ entry ∷ [] → EntryOf line entry
@@ -485,7 +485,8 @@ module _ {V O : Type 0} {answers : O → Option (List Answer)} (look : V → Vol
       → IsDeviceIf (Rose (look first.volume).faults (look new.volume).faults) entry.event
       → (new.down ≡ true → Rose (look first.volume).faults (look new.volume).faults)
       → IfTold (look new.volume).told
-      (λ t. FitsThen known t.start (calls_of_last 0 old.trace) entry.calls t entry.event)
+      (λ t. FitsThen known (writes_of known entry.actor) t.start (calls_of_last 0 old.trace)
+      entry.calls t entry.event)
       → (clean_after known.clean entry.event ≡ true → new.down ≡ false
       → AreClean new.contents new.marks)
       → ShowsSideOf (slots_of old.contents) entry.event
@@ -522,11 +523,13 @@ module _ {V O : Type 0} {answers : O → Option (List Answer)} (look : V → Vol
         subst (λ (es : List Entry). IfTold (look new.volume).told (λ t. FitSince t.start t es))
         (sym made) (told_weaken
         (λ t. FitSince t.start t old.trace
-        × FitsThen known t.start (calls_of_last 0 old.trace) entry.calls t entry.event)
+        × FitsThen known (writes_of known entry.actor) t.start (calls_of_last 0 old.trace)
+        entry.calls t entry.event)
         (λ t. FitSince t.start t (old.trace ++ entry ∷ [])) (look new.volume).told
         (λ t both. fit_push unopened t.start 0 t old.trace entry both.0 both.1)
         (told_both (λ t. FitSince t.start t old.trace)
-        (λ t. FitsThen known t.start (calls_of_last 0 old.trace) entry.calls t entry.event)
+        (λ t. FitsThen known (writes_of known entry.actor) t.start (calls_of_last 0 old.trace)
+        entry.calls t entry.event)
         (look new.volume).told
         (fit_on (WritesOwn old.trace) (look old.volume).told (look new.volume).told unopened 0
         old.trace moves.only goes.fit) flush));
@@ -612,12 +615,14 @@ module _ {V O : Type 0} {answers : O → Option (List Answer)} (look : V → Vol
       (device_said (Rose (look first.volume).faults (look new.volume).faults) session stmt
       said.reply (λ is. rises (said.device is)))
       (λ down. by_old old.down refl (sym said.down ∙ down))
-      (said_tells stmt said.reply (look new.volume).told known (calls_of_last 0 old.trace)
-      said.calls
+      (said_tells stmt said.reply (look new.volume).told known (known.writes session.0)
+      (calls_of_last 0 old.trace) said.calls
       (λ is. failed_now (WritesEither (set_of old.copy)) said.calls said.stays.calls.only
       said.counted (said.device is))
       (λ other. still_now said.calls said.counted
-      (said.quiet (unforced old.ground.units session stmt other))))
+      (said.quiet (unforced old.ground.units session stmt other)))
+      (λ none. still_now said.calls said.counted
+      (said.idle (sym (writes_known unopened [] old.trace session.0 refl) ∙ none))))
       (λ now up.
       let still = said_clean stmt said.reply known.clean now in
       same_clean old.contents new.contents old.marks new.marks (said.kept still.0).1 said.marks
@@ -649,9 +654,9 @@ module _ {V O : Type 0} {answers : O → Option (List Answer)} (look : V → Vol
       (told_weaken
       (λ t. (shown.calls ≡ calls_of_last 0 old.trace)
       × IfShown (CleanSide shown.calls t) shown.event)
-      (λ t. FitsThen known t.start (calls_of_last 0 old.trace) shown.calls t shown.event)
+      (λ t. FitsThen known 0 t.start (calls_of_last 0 old.trace) shown.calls t shown.event)
       (look new.volume).told
-      (λ t both. layout_tells old.copy shown.event shown.is known t.start
+      (λ t both. layout_tells old.copy shown.event shown.is known 0 t.start
       (calls_of_last 0 old.trace) shown.calls t both.0 both.1)
       (told_both (λ t. shown.calls ≡ calls_of_last 0 old.trace)
       (λ t. IfShown (CleanSide shown.calls t) shown.event) (look new.volume).told
@@ -707,7 +712,7 @@ module _ {V O : Type 0} {answers : O → Option (List Answer)} (look : V → Vol
       (device_flush (Rose (look first.volume).faults (look new.volume).faults) old.down old.copy
       old.contents old.marks new.marks (look old.volume) (look new.volume) made.event rises made.is)
       (λ down. risen made.stays.calls.later (goes.down (sym made.down ∙ down)))
-      (flush_then (WritesEither (set_of old.copy)) old.down known old.contents old.marks
+      (flush_then (WritesEither (set_of old.copy)) old.down known 0 old.contents old.marks
       new.marks (look old.volume) (look new.volume) (calls_of_last 0 old.trace) made.calls
       made.event made.stays.calls.only goes.counted made.counted
       (λ rose. failed_now (WritesEither (set_of old.copy)) made.calls made.stays.calls.only
@@ -766,9 +771,9 @@ module _ {V O : Type 0} {answers : O → Option (List Answer)} (look : V → Vol
       is)
       (λ down. risen made.stays.calls.later (goes.down (sym made.down ∙ down)))
       (told_weaken (λ t. made.calls ≡ calls_of_last 0 old.trace)
-      (λ t. FitsThen known t.start (calls_of_last 0 old.trace) made.calls t made.event)
+      (λ t. FitsThen known 0 t.start (calls_of_last 0 old.trace) made.calls t made.event)
       (look new.volume).told
-      (λ t. start_tells options made.event is known t.start (calls_of_last 0 old.trace)
+      (λ t. start_tells options made.event is known 0 t.start (calls_of_last 0 old.trace)
       made.calls t)
       (still_now made.calls made.counted (ap look made.volume)))
       (λ now up. same_clean old.contents new.contents old.marks new.marks made.contents made.marks
@@ -804,7 +809,7 @@ module _ {V O : Type 0} {answers : O → Option (List Answer)} (look : V → Vol
       (device_step (Rose (look first.volume).faults (look new.volume).faults) answer event
       (λ at. rises (made.device at)) is)
       (λ down. by_down (made.down down))
-      (step_tells answer event is (look new.volume).told known (calls_of_last 0 old.trace)
+      (step_tells answer event is (look new.volume).told known 0 (calls_of_last 0 old.trace)
       made.calls
       (λ at. failed_now (WritesOwn old.trace) made.calls calls.only made.counted (made.device at))
       (λ still. still_now made.calls made.counted (ap look (made.quiet still)))
@@ -923,7 +928,7 @@ module _ {V O : Type 0} {answers : O → Option (List Answer)} (look : V → Vol
           → new.copy ≡ copy_left old.copy event
           → IfWritten
           (λ pages. IfTold (look new.volume).told
-          (λ t. HasPages (other_of known.copy) t.start made.calls pages t)) event
+          (λ t. ReadsPages (other_of known.copy) t.start made.calls pages t)) event
       wrote_at (events.Written pages) told copy =
           written_then (other_of known.copy) made.calls pages told.shadow.shade.pages
           (look new.volume) made.counted

@@ -6,8 +6,9 @@
 -- 3. Where an entry says WRITTEN, the set of the other copy had, after the calls up to it, as many
 --    pages. Where one says SWITCHED, the set of the new copy had exactly pages with the spots of
 --    the new layout: after the calls up to the entry before, and after those up to this one.
--- 4. Else a call was made since the entry before only where this one is that of an opening or of a
---    COMMIT. So none was where an entry says CLEAN.
+-- 4. Else a call was made since the entry before only where this one is that of an opening, or of
+--    the COMMIT of a unit that has written since the last opening. So none was where an entry says
+--    CLEAN.
 -- 5. The pages of the current copy are clean from CLEAN or SWITCHED on, until a statement is
 --    answered OK, and while the entries say so the set of that copy has the spots of each layout.
 -- 6. The current copy is that of the last opening or switch.
@@ -20,6 +21,9 @@ use Rattle.rg_engine.specs.Flushed.{ReadsAll}
 use Rattle.rg_engine.specs.Layouts.{IsSideOf}
 use Rattle.rg_outside.specs.Calls.{Call, Told, Wrote, faults_of}
 use Rattle.rg_outside.specs.Moments.{faults_at, moment}
+use Rattle.rg_model.specs.Changes.{unit_writes_after}
+use Rattle.rg_stmt.specs.declared.event.Actor.{Actor}
+use Rattle.rg_stmt.specs.declared.event.Actor.TheVariants as actors
 use Rattle.rg_stmt.specs.declared.event.Entry.{Entry}
 use Rattle.rg_stmt.specs.declared.event.Event.{Event}
 use Rattle.rg_page.specs.Content.{Content, slots_of}
@@ -30,14 +34,16 @@ use Rattle.rg_stmt.specs.declared.stmt.Reply.TheVariants.{Device, Done}
 use Rattle.rg_stmt.specs.declared.stmt.Stmt.{Stmt}
 use Rattle.rg_stmt.specs.declared.stmt.Stmt.TheVariants.{Commit}
 
--- what some first entries tell: the current copy, and whether all its pages are clean
+-- what some first entries tell: the current copy, whether all its pages are clean, and how many
+-- writes the open unit of each session has made
 pub record Known : Type 0 where
   pub copy : ℕ
   pub clean : Bool
+  pub writes : ℕ → ℕ
 
 -- before the first entry
 abbrev pub unopened : Known
-unopened = record { copy = 0; clean = false }
+unopened = record { copy = 0; clean = false; writes = λ session. 0 }
 
 -- the copy that is current after this event
 abbrev pub copy_after : (copy : ℕ) → Event → ℕ
@@ -54,9 +60,18 @@ clean_after clean (Said stmt Done) = false
 clean_after clean (Said stmt Device) = false
 clean_after clean event = clean
 
-abbrev pub known_after : Known → Event → Known
-known_after known event =
-    record { copy = copy_after known.copy event; clean = clean_after known.clean event }
+abbrev pub known_after : Known → Entry → Known
+known_after known entry = record {
+  copy = copy_after known.copy entry.event;
+  clean = clean_after known.clean entry.event;
+  writes =
+      λ session. unit_writes_after session entry.actor entry.event (known.writes session);
+}
+
+-- how many writes the unit of this actor has made
+abbrev pub writes_of : Known → Actor → ℕ
+writes_of known (actors.Session session) = known.writes session.0
+writes_of known actor = 0
 
 -- The count began after `start` calls, and up to an entry there were `calls`, more than up to the
 -- entry before. The last of them wrote this page.
@@ -77,7 +92,7 @@ pub record FailedThen (start before calls : ℕ) (t : Told) : Type 0 where
 
 -- The count began after `start` calls, and up to an entry there were `calls`. After them the first
 -- so many pages of this copy could be read.
-pub record HasPages (copy start calls count : ℕ) (t : Told) : Type 0 where
+pub record ReadsPages (copy start calls count : ℕ) (t : Told) : Type 0 where
   pub high : start + calls ≤ length t.calls
   pub pages : List Content
   pub count_is : length pages ≡ count
@@ -95,38 +110,40 @@ abbrev pub IfClean : Bool → Type 0 → Type 0
 IfClean true P = P
 IfClean false P = Unit {0}
 
--- the statement is a COMMIT, or this holds
-abbrev pub UnlessCommit : Stmt → Type 0 → Type 0
-UnlessCommit Commit P = Unit {0}
-UnlessCommit stmt P = P
+-- the statement is the COMMIT of a unit that has made so many writes, one at least, or this holds
+abbrev pub UnlessCommit : Stmt → (writes : ℕ) → Type 0 → Type 0
+UnlessCommit Commit writes P = writes ≡ 0 → P
+UnlessCommit stmt writes P = P
 
 -- while the calls can be counted, one has failed that was made after so many since the count began
 abbrev pub FailedSince : (start calls : ℕ) → Told → Type 0
 FailedSince start calls t =
     length t.calls < 2 ^ 64 - 1 → faults_at t (start + calls) < faults_of t.calls
 
--- what an event tells
-abbrev pub FitsThen : Known → (start before calls : ℕ) → Told → Event → Type 0
-FitsThen known start before calls t (Flush page) = WroteThen known.copy start before calls page t
-FitsThen known start before calls t FlushDevice = FailedThen start before calls t
-FitsThen known start before calls t (Said stmt Device) = FailedThen start before calls t
-FitsThen known start before calls t (Stop reasons.Device) = FailedThen start before calls t
-FitsThen known start before calls t (Said stmt reply) = UnlessCommit stmt (calls ≡ before)
-FitsThen known start before calls t (Layout copy side) =
+-- what an event tells, whose actor's unit has made so many writes
+abbrev pub FitsThen : Known → (writes start before calls : ℕ) → Told → Event → Type 0
+FitsThen known writes start before calls t (Flush page) =
+    WroteThen known.copy start before calls page t
+FitsThen known writes start before calls t FlushDevice = FailedThen start before calls t
+FitsThen known writes start before calls t (Said stmt Device) = FailedThen start before calls t
+FitsThen known writes start before calls t (Stop reasons.Device) = FailedThen start before calls t
+FitsThen known writes start before calls t (Said stmt reply) =
+    UnlessCommit stmt writes (calls ≡ before)
+FitsThen known writes start before calls t (Layout copy side) =
     (calls ≡ before) × IfClean known.clean (HasSide known.copy start calls side t)
-FitsThen known start before calls t (Switched to sides) =
+FitsThen known writes start before calls t (Switched to sides) =
     HasSide to start before sides.new t × HasSide to start calls sides.new t
-FitsThen known start before calls t (Written pages) =
-    HasPages (other_of known.copy) start calls pages t
-FitsThen known start before calls t (Opened opened rows pages used) = Unit {0}
-FitsThen known start before calls t event = calls ≡ before
+FitsThen known writes start before calls t (Written pages) =
+    ReadsPages (other_of known.copy) start calls pages t
+FitsThen known writes start before calls t (Opened opened rows pages used) = Unit {0}
+FitsThen known writes start before calls t event = calls ≡ before
 
 -- so does each of these entries, which come after so many calls, and after entries that tell this
 abbrev pub FitFrom : Known → (start before : ℕ) → Told → List Entry → Type 0
 FitFrom known start before t [] = Unit {0}
 FitFrom known start before t (entry ∷ entries) =
-    FitsThen known start before entry.calls t entry.event
-    × FitFrom (known_after known entry.event) start entry.calls t entries
+    FitsThen known (writes_of known entry.actor) start before entry.calls t entry.event
+    × FitFrom (known_after known entry) start entry.calls t entries
 
 -- the same of a trace: its first entry is that of an opening
 abbrev pub FitSince : (start : ℕ) → Told → List Entry → Type 0
@@ -135,7 +152,7 @@ FitSince start t trace = FitFrom unopened start 0 t trace
 -- what is known after these entries, and how many calls there were up to the last
 abbrev pub known_of : Known → List Entry → Known
 known_of known [] = known
-known_of known (entry ∷ entries) = known_of (known_after known entry.event) entries
+known_of known (entry ∷ entries) = known_of (known_after known entry) entries
 
 abbrev pub calls_of_last : (calls : ℕ) → List Entry → ℕ
 calls_of_last calls [] = calls

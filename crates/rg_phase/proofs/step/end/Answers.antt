@@ -10,8 +10,12 @@ use Rattle.rg_phase.proofs.Eventful.{over_none}
 use Rattle.rg_phase.proofs.Loading.{space_at, space_unfilled}
 use Rattle.rg_phase.proofs.Making.{acts_booked, writes_none}
 use Rattle.rg_phase.proofs.Steps.{next_runs, runs_some}
-use Rattle.rg_phase.proofs.Told.{tells_unfilled, told_over}
+use Rattle.rg_phase.proofs.Told.{tells_unfilled, told_over, unwritten}
 use Rattle.rg_phase.proofs.step.end.Goals as goal
+
+pub book-requires-clause-written : goal.book-requires-clause-written
+book-requires-clause-written g c =
+    unwritten c.args.desk.now c.next_event-event.result c.next_event-event.ensures.unfilled
 
 pub returns-clause-acts : goal.returns-clause-acts
 returns-clause-acts g c =

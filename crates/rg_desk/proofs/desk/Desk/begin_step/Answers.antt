@@ -1,6 +1,6 @@
-use Rattle.std.proofs.Common.{◌≤◌, inl, inr, ℕ, Option, Some, refl, sym, ◌∙◌, ap, subst}
+use Rattle.std.proofs.Common.{◌≤◌, inl, inr, ℕ, Option, Some, length, refl, sym, ◌∙◌, ap, subst}
 use Rattle.rg_base.specs.Copies.{other_of}
-use Rattle.rg_desk.specs.Desk.{HasTaken, left_by_stage}
+use Rattle.rg_desk.specs.Desk.{HasTaken, IsAsWritten, left_by_stage}
 use Rattle.rg_feed.specs.declared.fold.item.Stage.{Stage}
 use Rattle.rg_image.specs.Rules.{copy_capacity}
 use Rattle.rg_outside.specs.Told.{AddsAnswer, HandsOver}
@@ -59,6 +59,13 @@ returns-clause-begins g c =
         copy = c.other-copy.ensures.copy ∙ ap other_of (sym (ap (λ d. d.copy) same));
         capacity = c.other-copy.ensures.capacity
             ∙ ap (λ d. copy_capacity (look d.volume).capacities (other_of d.copy)) (sym same);
+        caught = λ last unswitched.
+            subst (λ (n : ℕ). n ≤ c.in-Some.stage.done)
+            (sym c.changes-changes.ensures)
+            (c.in-Some.ensures.caught last unswitched);
+        current =
+            subst (λ d. IsAsWritten d.stage d.shadow (length d.ground.log.records)) (sym same)
+            c.stage.ensures.current;
       };
       same = same_asked c.args.self.now mid asked answer room same;
       answered = subst (λ o. AddsAnswer (answers o) answer (answers asked.operator))

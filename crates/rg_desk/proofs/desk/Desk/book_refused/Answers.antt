@@ -14,6 +14,10 @@ use Rattle.rg_engine.proofs.Flushing.{own_same}
 use Rattle.rg_engine.proofs.Preparing.{prepared_while, seen_while}
 use Rattle.rg_feed.specs.Ends.{sent_items}
 use Rattle.rg_desk.proofs.Feeding.{idle_items}
+use Rattle.rg_desk.proofs.Quiet.{written_while}
+use Rattle.rg_engine.specs.Prepared.{PreparedSeen}
+use Rattle.std.proofs.Common.{length}
+use Rattle.rg_desk.specs.Desk.{IsAsWritten}
 use Rattle.rg_desk.proofs.desk.Desk.book_refused.Goals as goal
 
 pub invariant_of-self : goal.invariant_of-self
@@ -42,6 +46,14 @@ invariant_of-self g c =
           c.self.invariant.3 next c.push.new.self.trace
           (c.push.ensures.trace
           ∙ ap (λ (e : Entry). inside.chronicle.trace ++ e ∷ []) c.utility.ensures),
+      subst
+          (λ (o : Option Prepared). IsAsWritten inside.stage (prepared_seen o)
+          (length inside.engine.log.records)) (sym c.keep_while_running.ensures)
+          (subst
+          (λ (k : Option PreparedSeen). IsAsWritten inside.stage k
+          (length inside.engine.log.records)) (sym (seen_while inside.stage inside.shadow))
+          (written_while inside.stage (prepared_seen inside.shadow)
+          (length inside.engine.log.records) c.self.invariant.4)),
     )
 
 pub returns : goal.returns

@@ -22,6 +22,11 @@ use Rattle.rg_engine.proofs.Preparing.{prepared_same, prepared_while, seen_while
 use Rattle.rg_feed.specs.Ends.{sent_items}
 use Rattle.rg_engine.specs.Sends.{KeepsItems}
 use Rattle.rg_desk.proofs.Feeding.{booked_items}
+use Rattle.rg_desk.proofs.Quiet.{told_current, written_same, written_stepped}
+use Rattle.rg_engine.specs.Prepared.{PreparedSeen}
+use Rattle.std.proofs.Common.{length}
+use Rattle.rg_desk.specs.Desk.{IsAsWritten}
+use Rattle.rg_laws_utility.proofs.TraceStageLemmas.Switching.{plain_turn}
 use Rattle.rg_desk.proofs.desk.Desk.book_step.Goals as goal
 
 pub step_utility-self-inside-requires-clause-shown :
@@ -73,6 +78,7 @@ invariant_of-self g c =
     let covered = least_holder inside.engine.claims.drain inside.engine.claims.claims in
     let steps = subst (λ (n : ℕ). StepsOn inside.engine s n c.args.answer c.args.event next after)
     c.since.ensures c.step_utility-self-inside.ensures in
+    let turn = plain_turn _ by.1 in
     let had = subst
     (λ (b : Bool). KeepsItems inside.engine inside.origin inside.chronicle.trace b (Some s)
     inside.changes (sent_items inside.outlet)) up
@@ -92,6 +98,24 @@ invariant_of-self g c =
           c.push.new.self.trace
           (c.push.ensures.trace
           ∙ ap (λ (e : Entry). inside.chronicle.trace ++ e ∷ []) c.utility.ensures)),
+      subst
+          (λ (o : Option Prepared). IsAsWritten next (prepared_seen o) (length after.log.records))
+          (sym c.keep_while_running.ensures)
+          (subst
+          (λ (k : Option PreparedSeen). IsAsWritten next k (length after.log.records))
+          (sym (seen_while next inside.shadow))
+          (written_same next (while_running next (prepared_seen inside.shadow))
+          (length inside.engine.log.records) (length after.log.records)
+          (ap (λ (l : Listed). length l.records) c.step_utility-self-inside.ensures.engine.log)
+          (written_stepped inside.changes.since c.args.answer covered s c.args.event turn.0 next
+          (prepared_seen inside.shadow) (length inside.engine.log.records)
+          (λ p is written. told_current c.args.self.now c.args.event p c.requires.written
+          (sym (ap (λ d. d.shadow) c.self.view_is) ∙ is) written
+          ∙ sym (ap (λ d. length d.ground.log.records) c.self.view_is)) turn.1
+          (steps.follows covered turn.0 turn.1)
+          (subst
+          (λ (o : Option Stage). IsAsWritten o (prepared_seen inside.shadow)
+          (length inside.engine.log.records)) stage_is c.self.invariant.4)))),
     )
 
 pub returns : goal.returns

@@ -1,5 +1,5 @@
 use Rattle.std.proofs.Common.{◌≡◌, ◌+◌, ◌++◌, ℕ, Bool, false, List, [], ◌∷◌, take, length, Option}
-use Rattle.std.proofs.Common.{Some}
+use Rattle.std.proofs.Common.{None, Some}
 use Rattle.std.proofs.Common.{refl, sym, ◌∙◌, ap, subst}
 use Rattle.rg_base.specs.declared.verdict.StopReason.TheVariants as reasons
 use Rattle.rg_base.specs.declared.which.Which.TheVariants.{Key, Clus, Cat}
@@ -35,6 +35,7 @@ use Rattle.rg_desk.proofs.DeskGoes.{calls_on}
 use Rattle.rg_feed.specs.Ends.{sent_items}
 use Rattle.rg_engine.specs.Sends.{KeepsItems}
 use Rattle.rg_desk.proofs.Feeding.{switched_items, turns_more, turns_units}
+use Rattle.rg_desk.specs.Desk.{IsAsWritten}
 use Rattle.rg_desk.proofs.desk.Desk.commit_switch.Goals as goal
 
 pub turn-turned-requires-clause-keys : goal.turn-turned-requires-clause-keys
@@ -171,6 +172,9 @@ invariant_of-self g c =
           (sym (ap (λ d. d.ground.pages) c.self.view_is)) (sym (ap (λ d. d.trace) c.self.view_is))
           (sym (ap (λ d. old_records d) c.self.view_is))
           c.turn-turned.ensures.shade c.turn-turned.ensures.grant)),
+      subst
+          (λ (o : Option Prepared). IsAsWritten c.next_stage-self-inside.result (prepared_seen o)
+          (length c.turn-turned.new.engine.log.records)) (sym c.take.ensures.after) tt,
     )
 
 pub invariant_of-self-in-Err-1 : goal.invariant_of-self-in-Err-1
@@ -215,6 +219,9 @@ invariant_of-self-in-Err-1 g c =
           (λ (o : Option Prepared). KeepsPrepared o c.turn-turned.new.engine.log.records inside.copy
           after) (sym c.take.ensures.after) tt,
       λ now. absurd (cc (now)),
+      subst
+          (λ (o : Option Prepared). IsAsWritten None (prepared_seen o)
+          (length c.turn-turned.new.engine.log.records)) (sym c.take.ensures.after) tt,
     )
 
 pub returns-in-Ok-clause-ok : goal.returns-in-Ok-clause-ok

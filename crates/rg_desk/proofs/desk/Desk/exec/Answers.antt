@@ -29,6 +29,9 @@ use Rattle.rg_laws_utility.specs.RecordChanges.Changed.{changes_in}
 use Rattle.rg_engine.specs.ChangeFeed.Sending.{items_made}
 use Rattle.rg_feed.specs.SentItems.Keeps.{sent_changes}
 use Rattle.rg_desk.proofs.Feeding.{said_items}
+use Rattle.rg_desk.proofs.Quiet.{idle_quiet, written_said}
+use Rattle.rg_engine.specs.Prepared.{prepared_seen}
+use Rattle.rg_model.specs.Changes.{unit_writes}
 use Rattle.rg_desk.proofs.desk.Desk.exec.Goals as goal
 
 pub reply_to-reply-requires-clause-shown : goal.reply_to-reply-requires-clause-shown
@@ -89,6 +92,12 @@ invariant_of-self-2 g c =
           c.is_some-runs.ensures)
           c.push.new.self.trace
           (trace ∙ ap (λ (es : List Entry). es ++ entry ∷ []) c.make_room.ensures.trace),
+      written_said inside.engine inside.chronicle inside.origin inside.copy inside.down
+          inside.marks.items _ c.self.invariant.0 inside.stage inside.changes
+          (sent_items inside.outlet) (prepared_seen inside.shadow) c.self.invariant.3 tends
+          c.args.session c.requires c.args.stmt c.reply_to-reply.result
+          c.reply_to-reply.new.engine c.reply_to-reply.new.down _ c.reply_to-reply.ensures.replies
+          c.self.invariant.4,
     )
 
 pub returns-clause-made : goal.returns-clause-made
@@ -126,6 +135,14 @@ returns-clause-made g c =
           → g.V.Volume.seen volume
           ≡ g.V.Volume.seen d.volume)
           c.self.view_is said.quiet;
+      idle = subst
+          (λ d. unit_writes session.0 (behind [] d.trace) ≡ 0 → look volume ≡ look d.volume)
+          c.self.view_is
+          (idle_quiet inside.engine inside.chronicle inside.origin inside.copy inside.down
+          inside.marks.items _ c.self.invariant.0 inside.stage inside.changes
+          (sent_items inside.outlet) c.self.invariant.3 c.self.invariant.1 session c.requires stmt
+          reply c.reply_to-reply.new.engine c.reply_to-reply.new.down _
+          c.reply_to-reply.ensures.replies);
       forced = subst
           (λ d. forces d.ground.units session stmt ≡ true → reply ≡ Done
           → c.reply_to-reply.new.engine.log.forced ≡ length c.reply_to-reply.new.engine.log.records)

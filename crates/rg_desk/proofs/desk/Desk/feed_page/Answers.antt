@@ -33,6 +33,10 @@ use Rattle.rg_engine.proofs.Flushing.{own_same}
 use Rattle.rg_engine.proofs.Preparing.{prepared_same, prepared_while, seen_while}
 use Rattle.rg_engine.proofs.Same.{ground_still, same_shows}
 use Rattle.rg_desk.proofs.Still.{desk_still}
+use Rattle.rg_desk.proofs.Quiet.{written_same, written_stepped}
+use Rattle.rg_engine.specs.Prepared.{PreparedSeen}
+use Rattle.rg_desk.specs.Desk.{IsAsWritten}
+use Rattle.rg_laws_utility.proofs.TraceStageLemmas.Switching.{plain_turn}
 use Rattle.rg_desk.proofs.desk.Desk.feed_page.Goals as goal
 
 pub copy_page-requires : goal.copy_page-requires
@@ -64,6 +68,9 @@ invariant_of-self-in_err-item g c =
           (same_items inside.engine mid inside.origin inside.chronicle.trace inside.down
           inside.stage inside.changes (sent_items inside.outlet)
           (engine_rows inside.engine mid same) c.self.invariant.3),
+      written_same inside.stage (prepared_seen inside.shadow) (length inside.engine.log.records)
+          (length mid.log.records) (ap (λ (l : Listed). length l.records) same.log)
+          c.self.invariant.4,
     )
 
 pub step_utility-self-inside-requires-clause-shown :
@@ -157,6 +164,8 @@ invariant_of-self-2 g c =
     (subst
     (λ (o : Option Stage). KeepsItems inside.engine inside.origin inside.chronicle.trace inside.down
     o inside.changes (sent_items inside.outlet)) c.in-Some.is c.self.invariant.3) in
+    let covered = least_holder mid.claims.drain mid.claims.claims in
+    let turn = plain_turn _ plain in
     let first = c.self.invariant.0 in
     let high = none_high inside.engine
     (record {
@@ -184,6 +193,21 @@ invariant_of-self-2 g c =
           c.in_ok-item.item (least_holder mid.claims.drain mid.claims.claims) calls inside.changes
           (sent_items inside.outlet) had (engine_rows inside.engine mid same) copy steps plain
           (length inside.chronicle.trace) tends.within.bounded high c.push.new.self.trace trace)),
+      subst
+          (λ (o : Option Prepared). IsAsWritten next (prepared_seen o) (length after.log.records))
+          (sym c.keep_while_running.ensures)
+          (subst
+          (λ (k : Option PreparedSeen). IsAsWritten next k (length after.log.records))
+          (sym (seen_while next inside.shadow))
+          (written_same next (while_running next (prepared_seen inside.shadow))
+          (length inside.engine.log.records) (length after.log.records) (ap length records)
+          (written_stepped inside.changes.since c.args.answer covered s
+          (Unload c.args.page rows) turn.0 next (prepared_seen inside.shadow)
+          (length inside.engine.log.records) (λ p is no. absurd (cc no)) turn.1
+          (steps.follows covered turn.0 turn.1)
+          (subst
+          (λ (o : Option Stage). IsAsWritten o (prepared_seen inside.shadow)
+          (length inside.engine.log.records)) c.in-Some.is c.self.invariant.4)))),
     )
 
 pub returns-clause-made : goal.returns-clause-made

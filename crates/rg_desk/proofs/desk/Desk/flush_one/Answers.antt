@@ -20,6 +20,9 @@ use Rattle.rg_feed.specs.Ends.{sent_items}
 use Rattle.rg_page.specs.Content.{slots_of}
 use Rattle.rg_desk.proofs.DeskGoes.{system_keeps}
 use Rattle.rg_desk.proofs.Feeding.{passed, stays_copied, system_other}
+use Rattle.rg_desk.proofs.Quiet.{written_same}
+use Rattle.rg_engine.specs.Prepared.{prepared_seen}
+use Rattle.std.proofs.Common.{length}
 use Rattle.rg_desk.proofs.desk.Desk.flush_one.Goals as goal
 
 pub invariant_of-self-2 : goal.invariant_of-self-2
@@ -77,6 +80,9 @@ invariant_of-self-2 g c =
           (look c.tell_flush-event.new.volume) event told.is))
           c.push.new.self.trace
           (trace ∙ ap (λ (es : List Entry). es ++ entry ∷ []) c.make_room.ensures.trace),
+      written_same inside.stage (prepared_seen inside.shadow) (length inside.engine.log.records)
+          (length c.tell_flush-event.new.engine.log.records)
+          (ap (λ (l : Listed). length l.records) told.log) c.self.invariant.4,
     )
 
 pub returns-clause-made : goal.returns-clause-made

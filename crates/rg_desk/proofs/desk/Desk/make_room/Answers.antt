@@ -19,4 +19,5 @@ invariant_of-self g c =
           (λ (es : List Entry). KeepsItems inside.engine inside.origin es inside.down inside.stage
           inside.changes (sent_items inside.outlet)) (sym c.make_room.ensures.trace)
           c.self.invariant.3,
+      c.self.invariant.4,
     )

@@ -79,6 +79,7 @@ invariant_of-desk g c =
       opened_items found c.calls_now-now.result c.in-Ok.engine c.begin.new.chronicle
           (record { records = _; copy = found.copy }) c.in-Ok.changes (sent_items c.in-Ok.outlet) b
           c.in-Ok.ensures.changes c.in-Ok.ensures.sent,
+      tt,
     )
 
 pub returns-in-Ok-clause-opens : goal.returns-in-Ok-clause-opens

@@ -27,6 +27,8 @@ use Rattle.rg_desk.proofs.WrittenCopy.{claims_are, desk_writes, is_prepared, wri
 use Rattle.rg_desk.proofs.WrittenCopy.{writes_later, writes_only, writes_sound}
 use Rattle.rg_feed.specs.Ends.{sent_items}
 use Rattle.rg_desk.proofs.Feeding.{same_items}
+use Rattle.rg_desk.proofs.Quiet.{written_now}
+use Rattle.rg_desk.specs.Desk.{IsAsWritten}
 use Rattle.rg_desk.proofs.desk.Desk.prepare_switch.Goals as goal
 
 pub invariant_of-self : goal.invariant_of-self
@@ -86,6 +88,14 @@ invariant_of-self g c =
             records = ap (λ (x : Engine). x.log.records) w.forces.same;
             units = ap (λ (x : Engine). x.units) w.forces.same;
           }) c.self.invariant.3,
+      subst
+          (λ (o : Option Prepared). IsAsWritten inside.stage (prepared_seen o)
+          (length next.log.records)) (sym c.keep.ensures)
+          (written_now inside.stage
+          (record { shade = c.in-Ok.prepared.shadow; records = c.in-Ok.prepared.records })
+          (length next.log.records)
+          (written.records
+          ∙ ap (λ (x : Engine). length x.log.records) (sym w.forces.same))),
     )
 
 pub invariant_of-self-in-Err : goal.invariant_of-self-in-Err
@@ -122,6 +132,9 @@ invariant_of-self-in-Err g c =
             records = ap (λ (x : Engine). x.log.records) w.forces.same;
             units = ap (λ (x : Engine). x.units) w.forces.same;
           }) c.self.invariant.3,
+      subst
+          (λ (o : Option Prepared). IsAsWritten inside.stage (prepared_seen o)
+          (length next.log.records)) (sym c.forget.ensures) tt,
     )
 
 pub returns-in-Ok-clause-ok : goal.returns-in-Ok-clause-ok

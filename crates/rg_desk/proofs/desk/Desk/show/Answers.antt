@@ -21,6 +21,9 @@ use Rattle.rg_engine.proofs.Preparing.{prepared_same}
 use Rattle.rg_feed.specs.Ends.{sent_items}
 use Rattle.rg_desk.proofs.DeskGoes.{system_keeps}
 use Rattle.rg_desk.proofs.Feeding.{engine_rows, passed, stays_copied, system_other}
+use Rattle.rg_desk.proofs.Quiet.{written_same}
+use Rattle.rg_engine.specs.Prepared.{prepared_seen}
+use Rattle.std.proofs.Common.{length}
 use Rattle.rg_desk.proofs.desk.Desk.show.Goals as goal
 
 pub tell_layout-event-requires : goal.tell_layout-event-requires
@@ -65,6 +68,9 @@ invariant_of-self-2 g c =
           (λ st a. system_keeps st a event (layout_system inside.copy event told.is))
           c.push.new.self.trace
           (trace ∙ ap (λ (es : List Entry). es ++ entry ∷ []) c.make_room.ensures.trace),
+      written_same inside.stage (prepared_seen inside.shadow) (length inside.engine.log.records)
+          (length c.tell_layout-event.new.engine.log.records)
+          (ap (λ (l : Listed). length l.records) told.same.log) c.self.invariant.4,
     )
 
 pub returns-clause-made : goal.returns-clause-made

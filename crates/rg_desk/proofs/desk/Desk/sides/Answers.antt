@@ -9,6 +9,10 @@ use Rattle.rg_engine.proofs.Preparing.{prepared_same}
 use Rattle.rg_desk.proofs.Still.{desk_still}
 use Rattle.rg_feed.specs.Ends.{sent_items}
 use Rattle.rg_desk.proofs.Feeding.{engine_rows, same_items}
+use Rattle.rg_desk.proofs.Quiet.{written_same}
+use Rattle.rg_engine.specs.Prepared.{prepared_seen}
+use Rattle.std.proofs.Common.{length}
+use Rattle.rg_desk.specs.Desk.{IsAsWritten}
 use Rattle.rg_desk.proofs.desk.Desk.sides.Goals as goal
 
 pub invariant_of-self : goal.invariant_of-self
@@ -25,6 +29,9 @@ invariant_of-self g c =
       same_items inside.engine c.side.new.self inside.origin inside.chronicle.trace inside.down
           inside.stage inside.changes (sent_items inside.outlet)
           (engine_rows inside.engine c.side.new.self same) c.self.invariant.3,
+      written_same inside.stage (prepared_seen inside.shadow) (length inside.engine.log.records)
+          (length c.side.new.self.log.records) (ap (λ (l : Listed). length l.records) same.log)
+          c.self.invariant.4,
     )
 
 pub invariant_of-self-in_err-new : goal.invariant_of-self-in_err-new
@@ -43,6 +50,12 @@ invariant_of-self-in_err-new g c =
       same_items inside.engine c.side.new.self inside.origin inside.chronicle.trace inside.down
           inside.stage inside.changes (sent_items inside.outlet)
           (engine_rows inside.engine c.side.new.self same) c.self.invariant.3,
+      subst
+          (λ (o : Option Prepared). IsAsWritten inside.stage (prepared_seen o)
+          (length c.side.new.self.log.records)) (sym c.new_side.ensures.same)
+          (written_same inside.stage (prepared_seen inside.shadow)
+          (length inside.engine.log.records) (length c.side.new.self.log.records)
+          (ap (λ (l : Listed). length l.records) same.log) c.self.invariant.4),
     )
 
 pub invariant_of-self-2 : goal.invariant_of-self-2
@@ -61,6 +74,12 @@ invariant_of-self-2 g c =
       same_items inside.engine c.side.new.self inside.origin inside.chronicle.trace inside.down
           inside.stage inside.changes (sent_items inside.outlet)
           (engine_rows inside.engine c.side.new.self same) c.self.invariant.3,
+      subst
+          (λ (o : Option Prepared). IsAsWritten inside.stage (prepared_seen o)
+          (length c.side.new.self.log.records)) (sym c.new_side.ensures.same)
+          (written_same inside.stage (prepared_seen inside.shadow)
+          (length inside.engine.log.records) (length c.side.new.self.log.records)
+          (ap (λ (l : Listed). length l.records) same.log) c.self.invariant.4),
     )
 
 pub returns-clause-sides : goal.returns-clause-sides

@@ -23,6 +23,8 @@ use Rattle.rg_feed.specs.Ends.{sent_items}
 use Rattle.rg_engine.specs.Sends.{KeepsItems, begin_items}
 use Rattle.rg_feed.specs.declared.fold.item.Item.{Item}
 use Rattle.rg_desk.proofs.Feeding.{started_items}
+use Rattle.rg_desk.proofs.Quiet.{written_same, written_started}
+use Rattle.rg_engine.specs.Prepared.{prepared_seen}
 use Rattle.rg_desk.proofs.desk.Desk.start.Goals as goal
 
 pub invariant_of-self-2 : goal.invariant_of-self-2
@@ -75,6 +77,14 @@ invariant_of-self-2 g c =
           (c.push.ensures.trace ∙ ap (λ (e : Entry). mid.trace ++ e ∷ []) c.utility.ensures
           ∙ ap (λ (es : List Entry). es ++ utility_entry event None c.calls_now-calls.result ∷ [])
           c.make_room.ensures.trace))),
+      written_same next (prepared_seen inside.shadow) (length inside.engine.log.records)
+          (length after.log.records)
+          (ap (λ (x : Engine). length x.log.records)
+          (start_aside inside.down inside.stage c.args.options inside.copy inside.engine event next
+          after c.start_utility-event.ensures))
+          (written_started inside.down inside.stage c.args.options inside.copy inside.engine event
+          next after (prepared_seen inside.shadow) (length inside.engine.log.records)
+          c.start_utility-event.ensures c.self.invariant.4),
     )
 
 pub returns-clause-made : goal.returns-clause-made

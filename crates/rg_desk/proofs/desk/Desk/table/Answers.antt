@@ -9,6 +9,9 @@ use Rattle.rg_desk.proofs.Feeding.{engine_rows, same_items}
 use Rattle.rg_engine.proofs.Preparing.{prepared_same}
 use Rattle.rg_desk.proofs.Still.{desk_still}
 use Rattle.rg_engine.proofs.TableRows.{ends_with}
+use Rattle.rg_desk.proofs.Quiet.{written_same}
+use Rattle.rg_engine.specs.Prepared.{prepared_seen}
+use Rattle.std.proofs.Common.{length}
 use Rattle.rg_desk.proofs.desk.Desk.table.Goals as goal
 
 pub table-requires : goal.table-requires
@@ -37,6 +40,9 @@ invariant_of-self g c =
       same_items inside.engine c.table.new.self inside.origin inside.chronicle.trace inside.down
           inside.stage inside.changes (sent_items inside.outlet)
           (engine_rows inside.engine c.table.new.self same) c.self.invariant.3,
+      written_same inside.stage (prepared_seen inside.shadow) (length inside.engine.log.records)
+          (length c.table.new.self.log.records) (ap (λ (l : Listed). length l.records) same.log)
+          c.self.invariant.4,
     )
 
 pub returns-clause-table : goal.returns-clause-table

@@ -3,6 +3,7 @@ use Rattle.rg_desk.specs.Desk.{CanPrepare}
 use Rattle.rg_engine.proofs.CopyPagesLemmas.Stamping.{length-stamped_first}
 use Rattle.rg_engine.specs.CopyPages.Stamped.{stamped_all}
 use Rattle.rg_engine.specs.Prepared.{PreparedSeen}
+use Rattle.rg_engine.specs.Room.{Ground}
 use Rattle.rg_base.specs.Copies.{other_of, set_of}
 use Rattle.rg_engine.specs.Flushed.{ReadsAll}
 use Rattle.rg_outside.specs.Moments.{IfTold}
@@ -10,7 +11,7 @@ use Rattle.rg_phase.specs.Made.{StepMakes, after_write, numbers_in}
 use Rattle.rg_phase.specs.declared.made.Made.{Made}
 use Rattle.rg_phase.specs.declared.made.Made.TheVariants.{Drafted, Written}
 use Rattle.rg_phase.proofs.Booking.{copied_all, draft_ready, unswitched_in}
-use Rattle.rg_phase.proofs.Switchable.{can_prepare, draft_stamped}
+use Rattle.rg_phase.proofs.Switchable.{can_prepare, caught_up, draft_stamped}
 use Rattle.rg_phase.proofs.Worked.{makes_written}
 use Rattle.rg_phase.proofs.step.Reorg.put.Goals as goal
 
@@ -34,7 +35,8 @@ prepare_switch-requires-clause-can g c =
     })
     c.requires.hears c.requires.begun.stage (unswitched_in task makes.unswitched)
     (copied_all task makes.copied c.requires.due.0.copied) makes.made_is.3
-    (omega (arith, c.backlog.ensures, c.if-backlog-gt0.false))
+    (caught_up look desk inlet task c.requires.begun c.requires.hears makes.unswitched
+    c.requires.due.2 makes.taken makes.made_is.3.within)
     (draft_ready look desk task x.shadow x.options c.requires.begun makes.made_is.2
     c.requires.due.0)
 
@@ -75,6 +77,7 @@ returns-in-Ok-clause-kept g c =
     record {
       shadow = record { shade = record shade { pages = stamped_all at shade.pages }; records = at };
       shadow_is = ap (λ d. d.shadow) c.in-Ok.ensures.ok.same;
+      current = ap (λ (x : Ground). length x.log.records) (sym c.in-Ok.ensures.ok.ground);
       pages_are =
           length-stamped_first at (length shade.pages) shade.pages ∙ sym c.count-pages.ensures;
       reads =

@@ -1,4 +1,4 @@
-use Rattle.std.proofs.Common.{◌≡◌, ℕ, Option, refl, subst}
+use Rattle.std.proofs.Common.{◌≡◌, ℕ, Option, refl, sym, subst}
 use Rattle.rg_image.specs.Rules.{copy_capacity}
 use Rattle.rg_laws_utility.specs.CopyWeight.Weighed.{weigh_feed}
 use Rattle.rg_base.specs.Copies.{other_of}
@@ -7,26 +7,31 @@ use Rattle.rg_phase.specs.Made.{TaskMakes}
 use Rattle.rg_phase.proofs.Booking.{task_makes, works_booked}
 use Rattle.rg_phase.proofs.Eventful.{page_makes, reload_kept}
 use Rattle.rg_phase.specs.Step.{HasPagesFor}
-use Rattle.rg_phase.proofs.Loading.{reload_left, space_at}
+use Rattle.rg_phase.specs.Working.{IsPageOf, IsReloadEvent}
+use Rattle.rg_phase.proofs.Loading.{reload_left, reload_may, reload_room, reload_tells, space_at}
 use Rattle.rg_phase.proofs.Making.{acts_booked, writes_none}
 use Rattle.rg_phase.proofs.Steps.{next_runs, runs_some}
 use Rattle.rg_phase.proofs.Stops.{reload_next}
-use Rattle.rg_phase.proofs.Told.{tells_page, told_page}
+use Rattle.rg_phase.proofs.Told.{tells_page, told_page, unwritten_page}
 use Rattle.rg_phase.proofs.step.Reorg.reload.Goals as goal
-
-pub reload_event-event-requires-clause-left : goal.reload_event-event-requires-clause-left
-reload_event-event-requires-clause-left g c =
-    reload_left c.args.task.now.stage c.args.task.now.answer c.requires.step
 
 pub book-requires-clause-next : goal.book-requires-clause-next
 book-requires-clause-next g c =
     let old = c.args.desk.now in
     let s = c.args.task.now.stage in
     let event = c.reload_event-event.result in
-    let is = c.reload_event-event.ensures.event in
+    let is : IsReloadEvent s event =
+    subst (IsReloadEvent s) (sym c.reload_event-event.ensures)
+    (reload_may s c.args.task.now.capacity c.fill-filled.result c.fill-filled.ensures.page) in
     next_runs old s c.args.task.now.answer event c.requires.begun.up c.requires.begun.stage
     is.booked
     (reload_next s c.args.task.now.answer c.requires.step event is old.changes old.covered)
+
+pub book-requires-clause-written : goal.book-requires-clause-written
+book-requires-clause-written g c =
+    unwritten_page c.args.desk.now c.fill-filled.result c.reload_event-event.result
+    (subst (IsPageOf c.fill-filled.result) (sym c.reload_event-event.ensures)
+    (reload_tells c.fill-filled.result))
 
 pub returns-clause-acts : goal.returns-clause-acts
 returns-clause-acts g c =
@@ -34,7 +39,9 @@ returns-clause-acts g c =
     let old = c.args.desk.now in
     let s = c.args.task.now.stage in
     let event = c.reload_event-event.result in
-    let is = c.reload_event-event.ensures.event in
+    let is : IsReloadEvent s event =
+    subst (IsReloadEvent s) (sym c.reload_event-event.ensures)
+    (reload_may s c.args.task.now.capacity c.fill-filled.result c.fill-filled.ensures.page) in
     let next = next_runs old s c.args.task.now.answer event c.requires.begun.up
     c.requires.begun.stage is.booked
     (reload_next s c.args.task.now.answer c.requires.step event is old.changes old.covered) in
@@ -47,12 +54,19 @@ returns-clause-acts g c =
     is.booked
     (λ stops. absurd (cc (stops, is.device))) (λ quiet. refl)
     (tells_page look old c.book.new.self c.fill-filled.result event
-    c.reload_event-event.ensures.told)
+    (subst (IsPageOf c.fill-filled.result) (sym c.reload_event-event.ensures)
+    (reload_tells c.fill-filled.result)))
     (space_at old.stage s _ (weigh_feed old.feed) event c.requires.begun.stage
     (subst (λ (n : ℕ). HasPagesFor n (weigh_feed old.feed) s event) capacity
-    (c.reload_event-event.ensures.space (weigh_feed old.feed))))
+    (subst (HasPagesFor c.args.task.now.capacity (weigh_feed old.feed) s)
+    (sym c.reload_event-event.ensures)
+    (reload_room s c.args.task.now.capacity (weigh_feed old.feed) c.fill-filled.result
+    c.requires.step.unswitched (reload_left s c.args.task.now.answer c.requires.step)
+    c.fill-filled.ensures.page))))
     (told_page c.fill-filled.new.self.made old.stage s c.args.inlet.now.taken c.fill-filled.result
-    event c.requires.begun.stage c.fill-filled.ensures.filled c.reload_event-event.ensures.told)
+    event c.requires.begun.stage c.fill-filled.ensures.filled
+    (subst (IsPageOf c.fill-filled.result) (sym c.reload_event-event.ensures)
+    (reload_tells c.fill-filled.result)))
     c.book.ensures
 
 pub fill-filled-requires-clause-made : goal.fill-filled-requires-clause-made
@@ -70,8 +84,11 @@ returns-clause-works g c =
     let look = g.V.Volume.seen in
     let old = c.args.desk.now in
     let task = c.args.task.now in
+    let s = task.stage in
     let event = c.reload_event-event.result in
-    let is = c.reload_event-event.ensures.event in
+    let is : IsReloadEvent s event =
+    subst (IsReloadEvent s) (sym c.reload_event-event.ensures)
+    (reload_may s c.args.task.now.capacity c.fill-filled.result c.fill-filled.ensures.page) in
     let made = c.fill-filled.new.self.made in
     let inlet = c.args.inlet.now in
     let makes = task_makes look old task c.args.self.now.made inlet c.requires.begun
@@ -82,6 +99,7 @@ returns-clause-works g c =
     is.booked
     (reload_next task.stage task.answer c.requires.step event is old.changes old.covered))
     (page_makes task c.requires.step.unswitched c.requires.step c.fill-filled.result event made
-    old.shadow inlet c.reload_event-event.ensures.told
+    old.shadow inlet (subst (IsPageOf c.fill-filled.result) (sym c.reload_event-event.ensures)
+    (reload_tells c.fill-filled.result))
     (reload_kept task c.requires.step c.args.self.now.made old.shadow inlet makes)
     c.fill-filled.ensures.made)

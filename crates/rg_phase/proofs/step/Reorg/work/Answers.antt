@@ -8,7 +8,7 @@ use Rattle.rg_phase.proofs.Eventful.{makes_or_stop}
 use Rattle.rg_phase.proofs.Loading.{space_at, space_or_stop}
 use Rattle.rg_phase.proofs.Making.{acts_booked, writes_shadow}
 use Rattle.rg_phase.proofs.Steps.{next_same, or_stop_next, runs_some}
-use Rattle.rg_phase.proofs.Told.{tells_or_stop, told_or_stop}
+use Rattle.rg_phase.proofs.Told.{tells_or_stop, told_or_stop, unwritten_or_stop}
 use Rattle.rg_phase.proofs.step.Reorg.work.Goals as goal
 
 pub book-requires-clause-next : goal.book-requires-clause-next
@@ -33,6 +33,11 @@ book-requires-clause-next g c =
     c.next_event-event.ensures.device next c.or_stop.ensures in
     next_same look old c.make-made.new.desk c.args.task.now.answer c.or_stop.result
     (writes_shadow look old c.make-made.new.desk c.make-made.ensures.desk) goes.2
+
+pub book-requires-clause-written : goal.book-requires-clause-written
+book-requires-clause-written g c =
+    unwritten_or_stop c.make-made.new.desk c.next_event-event.result _ c.or_stop.result
+    c.next_event-event.ensures.unfilled c.or_stop.ensures
 
 pub returns-clause-acts : goal.returns-clause-acts
 returns-clause-acts g c =

@@ -1,6 +1,6 @@
-use Rattle.std.proofs.Common.{[], Some, Err, refl, ap, ◌∙◌, subst}
+use Rattle.std.proofs.Common.{[], Some, Err, refl, sym, ap, ◌∙◌, subst}
 use Rattle.rg_base.specs.declared.verdict.StopReason.TheVariants as reasons
-use Rattle.rg_desk.specs.Desk.{MadeStep}
+use Rattle.rg_desk.specs.Desk.{MadeStep, TellsWritten}
 use Rattle.rg_stmt.specs.declared.event.Event.{Event}
 use Rattle.rg_stmt.specs.declared.event.Event.TheVariants as events
 use Rattle.rg_image.specs.Rules.{copy_capacity}
@@ -13,7 +13,7 @@ use Rattle.rg_phase.proofs.Loading.{space_at}
 use Rattle.rg_phase.proofs.Making.{acts_booked}
 use Rattle.rg_phase.proofs.Steps.{next_runs, runs_some}
 use Rattle.rg_phase.proofs.Stops.{device_next, stop_next, written_next}
-use Rattle.rg_phase.proofs.Told.{written_kept}
+use Rattle.rg_phase.proofs.Told.{tells_written, written_kept}
 use Rattle.rg_phase.proofs.step.Reorg.write.Goals.{in-Ok, in-Err-Device, in-Err-NoMemory}
 use Rattle.rg_phase.proofs.step.Reorg.write.Goals as goal
 use Rattle.rg_laws_utility.specs.CopyWeight.Weighed.{weigh_feed}
@@ -70,6 +70,17 @@ returns-clause-acts g c =
           (weigh_feed old.feed) event stage tt) tt
           (subst (λ (e : Event). MadeStep look mid (Some answer) e [] new) w.event-is
           c.book.ensures)
+    ]
+
+pub book-requires-clause-written : goal.book-requires-clause-written
+book-requires-clause-written g c =
+    let mid = c.put.new.desk in
+    elim c.match-put.branch [
+      | in-Ok w ↦
+          subst (TellsWritten mid) (sym w.event-is)
+          (tells_written g.V.Volume.seen mid w.in-Ok.pages w.in-Ok.ensures.kept)
+      | in-Err-Device w ↦ subst (TellsWritten mid) (sym w.event-is) tt
+      | in-Err-NoMemory w ↦ subst (TellsWritten mid) (sym w.event-is) tt
     ]
 
 pub put-requires-clause-made : goal.put-requires-clause-made
