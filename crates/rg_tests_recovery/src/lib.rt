@@ -1,0 +1,12 @@
+//! Tests of redo, of undo and of what an opening finds in a log, through the public calls of their
+//! crates.
+#![tactic(auto)]
+
+#[cfg(test)]
+mod current_copy;
+#[cfg(test)]
+mod open_units;
+#[cfg(test)]
+mod redo;
+#[cfg(test)]
+mod undo;

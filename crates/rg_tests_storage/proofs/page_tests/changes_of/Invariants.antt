@@ -1,5 +1,0 @@
-use Rattle.rg_undo.specs.Undoing.{AreChanges}
-use Rattle.rg_tests_storage.proofs.page_tests.changes_of.Given as goal
-
-abbrev pub invariant-loop-slot : goal.invariant-loop-slot
-invariant-loop-slot l = AreChanges l.entries.items

@@ -1,5 +1,0 @@
-use Rattle.std.proofs.Common.{length}
-use Rattle.rg_tests_storage.proofs.redo.+all_can.Given as goal
-
-abbrev pub decreases-all_can : goal.decreases-all_can
-decreases-all_can g l = length l.records.now
