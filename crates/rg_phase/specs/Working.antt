@@ -30,7 +30,7 @@ use Rattle.rg_reload.specs.declared.fault.ReloadFault.TheVariants as reloads
 use Rattle.rg_reload.specs.declared.packer.Filled.{Filled}
 use Rattle.rg_shadow.specs.Shade.{shade_slots}
 use Rattle.rg_shadow.specs.declared.fault.ShadowFault.{ShadowFault}
-use Rattle.rg_shadow.specs.declared.fault.ShadowFault.TheVariants.{NoSpace}
+use Rattle.rg_shadow.specs.declared.fault.ShadowFault.TheVariants.{NoMemory, NoSpace}
 use Rattle.rg_rules.specs.Stage.NumbersOf.{numbers_of}
 use Rattle.rg_stmt.specs.declared.event.Event.{Event}
 use Rattle.rg_stmt.specs.declared.event.Event.TheVariants as events
@@ -67,6 +67,15 @@ IsDueAt (steps.Write granted) u drain =
     IsIndexed u × (drain ≡ drains.Granted granted) × (u.last ≡ true) × (u.written ≡ false)
 IsDueAt steps.Switch u drain = IsIndexed u × (u.written ≡ true)
 IsDueAt steps.End u drain = ⊥
+
+-- a list, an index or changes are made, or a drain is waited for
+abbrev pub IsWork : Step → Type 0
+IsWork steps.Sort = Unit {0}
+IsWork steps.Build = Unit {0}
+IsWork steps.Log = Unit {0}
+IsWork (steps.Wait asked) = Unit {0}
+IsWork steps.Last = Unit {0}
+IsWork step = ⊥
 
 -- the utility has switched, or the operator ends it
 abbrev pub IsOver : Stage → Answer → Type 0
@@ -147,10 +156,10 @@ IsPageOf (Err fault) (events.Reload page rows) = ⊥
 IsPageOf made (events.Stop reason) = Unit {0}
 IsPageOf made event = ⊥
 
--- an event whose work was made, or the stop that stands in its place where it was not: STOP NOSPACE
--- where changes had no room
+-- an event whose work was made, or the stop that stands in its place where it was not: STOP
+-- NOMEMORY where memory ran out, and STOP NOSPACE where changes had no room
 abbrev pub IsEventOrStop : Event → Result Unit ShadowFault → (result : Event) → Type 0
 IsEventOrStop event made result =
     ((result ≡ event) × (is_err made ≡ false))
-    ⊎ (((result ≡ events.Stop reasons.NoMemory) × (is_err made ≡ true))
+    ⊎ (((result ≡ events.Stop reasons.NoMemory) × (made ≡ Err NoMemory))
     ⊎ ((result ≡ events.Stop reasons.NoSpace) × (takes event ≡ true) × (made ≡ Err NoSpace)))

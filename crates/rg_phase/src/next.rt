@@ -3,18 +3,20 @@
 // 1. After the switch the utility ends, whatever the operator wants.
 // 2. Before it the operator's command comes first: TERM ends the utility, and ALTER changes its
 //    options.
-// 3. Then the stage decides what the step makes.
+// 3. Then the stage decides what the step makes. An event here is one of a list, an index, changes or
+//    a drain; the other steps make theirs.
 // 4. LOG and LAST take as many changes as they may. Where they cannot be made, for want of room or
 //    of memory, the utility stops.
 // 5. The steps that copy or fill a page, write the new copy, or switch to it say themselves what
 //    became of it.
 // 6. RELOAD tells the page that the packer has filled, which is the next one. Where the other copy
 //    may not have that, with the empty one that is due after it, the utility stops.
-ghost use Rattle.std.specs.Prelude.{◌≡◌, ◌≤◌, false, true, IfSome, IsNone};
-ghost use Rattle.rg_model.specs.Turn.{step_of, turn_at, turn_of};
+ghost use Rattle.std.specs.Prelude.{◌≡◌, ◌⊎◌, ◌≤◌, false, true, Err, IfSome, IsNone};
+ghost use Rattle.rg_model.specs.Turn.{alter, step_of, turn_at, turn_of};
 ghost use Rattle.rg_phase.specs.Step.{is_device_stop};
-ghost use Rattle.rg_phase.specs.Working.{IsEventOrStop, IsOver, MakesStep, is_filling, reload_of};
-ghost use Rattle.rg_phase.specs.Working.{takes};
+ghost use Rattle.rg_phase.specs.Working.{IsEventOrStop, IsOver, IsWork, MakesStep, is_filling};
+ghost use Rattle.rg_phase.specs.Working.{reload_of, takes};
+ghost use Rattle.rg_shadow.specs.declared.fault.ShadowFault.TheVariants.{NoSpace};
 ghost use Rattle.rg_rules.specs.Stage.NumbersOf.{numbers_of};
 ghost use Rattle.rg_laws_utility.specs.TraceStage.Tending.{is_booked, is_plain};
 
@@ -36,6 +38,7 @@ use rg_stmt::event::Event;
 fn step_event(stage: &Stage, all: u64, holder: Option<Session>, answer: &Answer) -> Event
     requires done { stage.now.done ≤ stage.now.target }
     requires target { stage.now.target ≤ all }
+    requires work { IsWork (step_of (numbers_of stage.now) stage.now.drain) }
     ensures booked { is_booked result ≡ true }
     ensures device { is_device_stop result ≡ false }
     ensures unfilled { is_filling result ≡ false }
@@ -48,9 +51,7 @@ fn step_event(stage: &Stage, all: u64, holder: Option<Session>, answer: &Answer)
         Step::Log => log_event(stage, all, log_batch(stage), answer),
         Step::Wait(asked) => wait_event(stage, asked, holder, answer),
         Step::Last => last_event(stage, all, last_batch(stage, all)),
-        Step::Unload | Step::Reload | Step::Write(_) | Step::Switch | Step::End => {
-            Event::Stop(StopReason::NoMemory)
-        }
+        Step::Unload | Step::Reload | Step::Write(_) | Step::Switch | Step::End => unreachable!(),
     }
 }
 
@@ -59,6 +60,8 @@ fn step_event(stage: &Stage, all: u64, holder: Option<Session>, answer: &Answer)
 pub fn next_event(stage: &Stage, all: u64, holder: Option<Session>, answer: &Answer) -> Event
     requires done { stage.now.done ≤ stage.now.target }
     requires target { stage.now.target ≤ all }
+    requires work { IsOver stage.now answer.now ⊎ IsWork (step_of
+        (alter (numbers_of stage.now) answer.now.command) stage.now.drain) }
     ensures booked { is_booked result ≡ true }
     ensures device { is_device_stop result ≡ false }
     ensures unfilled { is_filling result ≡ false }
@@ -85,22 +88,16 @@ pub fn step_now(stage: &Stage, answer: &Answer) -> Option<Step>
     Some(step_for(&with_alter(stage, &answer.command)))
 }
 
-// Whether changes are taken with an event.
-fn takes(event: &Event) -> bool
-    ensures { result ≡ takes event.now }
-{
-    matches!(event, Event::Log { .. } | Event::Last { .. })
-}
-
 /// The event, or a stop where what goes with it could not be made: STOP NOSPACE where the new copy
 /// has no room for a change, else STOP NOMEMORY.
 pub fn or_stop(event: Event, made: Result<(), ShadowFault>) -> Event
+    requires space { made ≡ Err NoSpace → takes event ≡ true }
     ensures { IsEventOrStop event made result }
 {
     match made {
         Ok(()) => event,
-        Err(ShadowFault::NoSpace) if takes(&event) => Event::Stop(StopReason::NoSpace),
-        Err(_) => Event::Stop(StopReason::NoMemory),
+        Err(ShadowFault::NoSpace) => Event::Stop(StopReason::NoSpace),
+        Err(ShadowFault::NoMemory) => Event::Stop(StopReason::NoMemory),
     }
 }
 

@@ -23,7 +23,7 @@ ghost use Rattle.rg_desk.specs.Desk.{HasDrain, IsTask};
 ghost use Rattle.rg_feed.specs.Fold.Fold.{changes, copied_rows, since_begin};
 ghost use Rattle.rg_feed.specs.Fold.Lawful.{Lawful};
 ghost use Rattle.rg_image.specs.Rules.{copy_capacity};
-ghost use Rattle.rg_model.specs.Turn.{nth_which, turn_of};
+ghost use Rattle.rg_model.specs.Turn.{nth_which, step_of, turn_of};
 ghost use Rattle.rg_outside.specs.Faults.{Rose};
 ghost use Rattle.rg_phase.specs.Drafted.{IsDraftOf, IsFullOf, IsPackingOf};
 ghost use Rattle.rg_phase.specs.Made.{Drafts, EventMakes, Hears, IsAsMade, IsAt, IsFilled};
@@ -32,13 +32,14 @@ ghost use Rattle.rg_phase.specs.Made.{StepMakes, after_back, after_take, after_w
 ghost use Rattle.rg_phase.specs.declared.made.Made.{Made};
 ghost use Rattle.rg_phase.specs.Step.{Acts, KeepsWritten, Stepped};
 ghost use Rattle.rg_phase.specs.Working.{AreSidesToSwitch, IsDueAt, IsOver, MakesStep, Writes};
-ghost use Rattle.rg_phase.specs.Working.{IsIndexed, IsNextPage, is_filling};
+ghost use Rattle.rg_phase.specs.Working.{IsIndexed, IsNextPage, IsWork, is_filling, takes};
 ghost use Rattle.rg_phase.specs.declared.made.Made.TheVariants.{Nothing};
 ghost use Rattle.rg_laws_utility.specs.CopyWeight.Weighed.{weigh_feed};
 ghost use Rattle.rg_laws_utility.specs.TraceStage.Tending.{IsForAll, is_booked, is_plain};
 ghost use Rattle.rg_base.specs.declared.options.DrainState.{DrainState};
 ghost use Rattle.rg_rules.specs.Stage.NumbersOf.{numbers_of};
 ghost use Rattle.rg_shadow.specs.declared.drafts.IndexStage.TheVariants.{Sorted, Built};
+ghost use Rattle.rg_shadow.specs.declared.fault.ShadowFault.TheVariants.{NoSpace};
 ghost use Rattle.rg_base.specs.Copies.{other_of};
 
 use crate::draft::{Draft, Packing};
@@ -189,6 +190,7 @@ impl Reorg {
     )
         requires begun { IsTask V.seen desk.old task.now }
         requires unswitched { task.now.stage.switched ≡ false }
+        requires work { IsWork (step_of (numbers_in task.now) task.now.stage.drain) }
         requires hears { Hears desk.old inlet.old }
         requires works { Works V.seen self.old.made inlet.old desk.old }
         ensures acts { Acts V.seen desk.old task.now.answer self.new.made inlet.new.taken desk.new }
@@ -228,6 +230,7 @@ impl Reorg {
         ensures full { IfErr result (IsFullOf
             (copy_capacity (V.seen desk.old.volume).capacities (other_of desk.old.copy))
             (weigh_feed desk.old.feed)) }
+        ensures space { result ≡ Err NoSpace → takes event.now ≡ true }
     {
         match event {
             Event::Sort(which) => {

@@ -88,4 +88,5 @@ returns-in_default g c =
           other.not-GiveUp made
           (Some task.stage) inlet.taken;
       full = tt;
+      space = λ is. absurd (cc is);
     }
