@@ -11,8 +11,6 @@ mod remove;
 mod room;
 /// The three indexes of a table: by key, by `clus` and by `cat`, kept in step with its rows.
 pub mod indexes;
-#[cfg(test)]
-mod tests;
 // The root of a tree.
 mod root;
 // The entries of a range.

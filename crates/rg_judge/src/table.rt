@@ -8,5 +8,3 @@ pub mod held_cats;
 pub mod key_sets;
 /// The table with its locks.
 pub mod locked_rows;
-#[cfg(test)]
-mod tests;

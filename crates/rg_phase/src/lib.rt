@@ -9,5 +9,3 @@ pub mod made;
 pub mod next;
 /// A step.
 pub mod step;
-#[cfg(test)]
-mod tests;

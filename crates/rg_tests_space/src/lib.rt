@@ -8,3 +8,5 @@ mod indexes;
 mod layout;
 #[cfg(test)]
 mod space;
+#[cfg(test)]
+mod trees;

@@ -1,7 +1,7 @@
 use Rattle.std.proofs.Common.{◌∙◌, ap}
 use Rattle.rg_index.specs.Entries.{has_entry}
 use Rattle.rg_index.proofs.Lists.{gone}
-use Rattle.rg_btree.proofs.tests.put.Goals as goal
+use Rattle.rg_tests_space.proofs.trees.put.Goals as goal
 
 pub add-requires-clause-absent : goal.add-requires-clause-absent
 add-requires-clause-absent g c =

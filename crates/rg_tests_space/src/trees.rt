@@ -2,9 +2,9 @@ ghost use Rattle.std.specs.Prelude.{◌≡◌, OnOk};
 ghost use Rattle.rg_model.specs.Layout.{put_entry};
 ghost use Rattle.rg_index.specs.Entries.{without_entry};
 
-use crate::tree::{Tree, build};
 use rg_base::no_memory::NoMemory;
 use rg_base::place::Place;
+use rg_btree::tree::{Tree, build};
 use rg_index::index::Index;
 use rg_index::sorted::SortedIndex;
 use std::alloc::Global;
