@@ -5,5 +5,3 @@
 mod reload;
 #[cfg(test)]
 mod shadow;
-#[cfg(test)]
-mod translate;
