@@ -1,6 +1,6 @@
 -- From the run of lines to what the bytes or the words that ask for it come to.
 use Rattle.std.proofs.Common.{◌≡◌, ◌≢◌, ℕ, List, [], ◌∷◌, Result, Ok, Err, IfOk, OnErr, refl, sym}
-use Rattle.std.proofs.Common.{◌∙◌, ap, subst, append-nil, inl, inr, ◌⊎◌, Option}
+use Rattle.std.proofs.Common.{◌∙◌, subst, append-nil, inl, inr, ◌⊎◌, Option}
 use Rattle.rg_base.specs.declared.bytes.Bytes.{Bytes}
 use Rattle.rg_base.specs.declared.no_memory.NoMemory.{NoMemory as WantsMemory}
 use Rattle.rg_print.specs.Print.{damaged_text}

@@ -5,3 +5,4 @@ mod Pieces
 mod Shown
 mod Traces
 mod Starting
+mod SizesFile

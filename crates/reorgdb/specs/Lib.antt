@@ -5,5 +5,6 @@ pub mod Giving
 pub mod Operator
 pub mod Reading
 pub mod Refusals
+pub mod SizesFile
 pub mod Telling
 pub mod Traced

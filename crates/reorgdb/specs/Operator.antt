@@ -20,13 +20,15 @@ IsScriptOf bytes operator =
 abbrev pub RefusesScript : List ℕ → Refusal → Type 0
 RefusesScript bytes (refusals.OperatorLine line) = RefusesFile bytes (faults.Line line)
 RefusesScript bytes refusals.OperatorFile = ⊥
-RefusesScript bytes refusals.VolumeBusy = ⊥
-RefusesScript bytes (refusals.VolumeShort length) = ⊥
+RefusesScript bytes refusals.SizesFile = ⊥
+RefusesScript bytes refusals.SizesUnread = ⊥
+RefusesScript bytes (refusals.VolumeBusy sizes) = ⊥
+RefusesScript bytes (refusals.VolumeShort sizes length) = ⊥
 RefusesScript bytes refusals.NoMemory = Unit {0}
 
 -- the length that a refusal names is that of a file that was cut
 abbrev pub NamesShort : Refusal → Type 0
-NamesShort (refusals.VolumeShort length) = IsShort length
+NamesShort (refusals.VolumeShort sizes length) = IsShort sizes length
 NamesShort refusal = Unit {0}
 
 -- What is chosen by what was found. Where there is no file no operator of one is, and `main` takes

@@ -3,6 +3,7 @@ use Rattle.std.specs.Prelude.{ℕ, ◌≤◌, ◌⊎◌, List, ◌++◌, codes}
 use Rattle.std.specs.Fmt.{decimal}
 use Rattle.rg_file.specs.declared.folder.VolumeRefusal.{VolumeRefusal}
 use Rattle.rg_file.specs.declared.folder.VolumeRefusal.TheVariants as volumes
+use Rattle.rg_file.specs.declared.sizes.Sizes.{Sizes}
 use Rattle.reorgdb.specs.declared.edge.Refusal.{Refusal}
 use Rattle.reorgdb.specs.declared.edge.Refusal.TheVariants as refusals
 use Rattle.reorgdb.specs.declared.outcome.Outcome.{Outcome}
@@ -41,8 +42,10 @@ deck_refusal line = codes "REFUSED deck line " ++ decimal line ++ codes "\n"
 abbrev pub refusal_status : Refusal → ℕ
 refusal_status (refusals.OperatorLine line) = 11
 refusal_status refusals.OperatorFile = 12
-refusal_status refusals.VolumeBusy = 15
-refusal_status (refusals.VolumeShort length) = 16
+refusal_status refusals.SizesFile = 13
+refusal_status refusals.SizesUnread = 14
+refusal_status (refusals.VolumeBusy sizes) = 15
+refusal_status (refusals.VolumeShort sizes length) = 16
 refusal_status refusals.NoMemory = 8
 
 -- and the whole output
@@ -50,17 +53,18 @@ abbrev pub refusal_text : Refusal → List ℕ
 refusal_text (refusals.OperatorLine line) =
     codes "REFUSED operator line " ++ decimal line ++ codes "\n"
 refusal_text refusals.OperatorFile = codes "REFUSED operator\n"
-refusal_text refusals.VolumeBusy = codes "REFUSED volume busy\n"
-refusal_text (refusals.VolumeShort length) = codes "REFUSED volume short\n"
+refusal_text refusals.SizesFile = codes "REFUSED volume.txt\n"
+refusal_text refusals.SizesUnread = codes "REFUSED volume.txt read\n"
+refusal_text (refusals.VolumeBusy sizes) = codes "REFUSED volume busy\n"
+refusal_text (refusals.VolumeShort sizes length) = codes "REFUSED volume short\n"
 refusal_text refusals.NoMemory = codes ""
 
 -- a volume that is not opened is refused for the same reason
-abbrev pub volume_refusal : VolumeRefusal → Refusal
-volume_refusal volumes.Busy = refusals.VolumeBusy
-volume_refusal (volumes.Short length) = refusals.VolumeShort length
+abbrev pub volume_refusal : Sizes → VolumeRefusal → Refusal
+volume_refusal sizes volumes.Busy = refusals.VolumeBusy sizes
+volume_refusal sizes (volumes.Short length) = refusals.VolumeShort sizes length
+volume_refusal sizes volumes.NoMemory = refusals.NoMemory
 
 -- a status of which a line on standard error says why
 abbrev pub HasLine : ℕ → Type 0
-HasLine status =
-    ((3 ≤ status) × (status ≤ 6))
-    ⊎ (((11 ≤ status) × (status ≤ 12)) ⊎ ((15 ≤ status) × (status ≤ 16)))
+HasLine status = ((3 ≤ status) × (status ≤ 6)) ⊎ ((11 ≤ status) × (status ≤ 16))

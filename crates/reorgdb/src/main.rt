@@ -1,5 +1,6 @@
-//! Plays a deck of statements, read from standard input or made of a seed, over the volume
-//! `reorgdb.vol`, and prints every reply, or sums them up; or prints the layout of that volume.
+//! Plays a deck of statements, read from standard input or made of a seed, over the volume of the
+//! folder that it runs in, and prints every reply, or sums them up; or prints the layout of that
+//! volume.
 #![tactic(auto)]
 
 use cause::{Cause, Errors};
@@ -8,6 +9,7 @@ use rg_file::descriptors::HeldDescriptors;
 use rg_file::faults::Faults;
 use rg_file::operator::ClockOperator;
 use rg_file::sink::OutputSink;
+use rg_file::sizes::Sizes;
 use rg_file::source::InputSource;
 use rg_outside::operator::Operator;
 use std::process::ExitCode;
@@ -25,6 +27,8 @@ mod giving;
 mod outcome;
 /// Reading the deck from the source.
 mod reading;
+/// Reading the file of the volume's sizes.
+mod sizes_file;
 /// What is told of a run.
 mod telling;
 #[cfg(test)]
@@ -53,8 +57,14 @@ fn main(rt: HostRuntime) -> ExitCode {
     let mut source = InputSource::new(rt.stdin());
     let mut sink = OutputSink::new(rt.stdout());
     let mut faults = Faults::none();
-    let (status, refusal, volume) = match settle(rt, alloc, &held, &mut faults) {
-        Ok(Start { operator, volume }) => {
+    let (status, refusal, sizes, volume) = match settle(rt, alloc, &held, &mut faults) {
+        Ok(
+            Start {
+                operator,
+                sizes,
+                volume,
+            },
+        ) => {
             let operator: Box<dyn Operator + Send> = match operator {
                 Some(operator) => match Box::new(alloc, operator) {
                     Ok(operator) => operator,
@@ -69,14 +79,18 @@ fn main(rt: HostRuntime) -> ExitCode {
                 return ExitCode::from(8);
             };
             let finished = reorg_main(&rt, alloc, &words, &mut source, &mut sink, volume, operator);
-            (finished.status, None, finished.volume.last_error())
+            (finished.status, None, sizes, finished.volume.last_error())
         }
-        Err(refusal) => (refuse(alloc, &mut sink, refusal), Some(refusal), None),
+        Err(refusal) => {
+            let status = refuse(alloc, &mut sink, refusal);
+            (status, Some(refusal), Sizes::standard(), None)
+        }
     };
     let errors = Errors {
-        operator: faults.last(),
+        files: faults.last(),
         source: source.last_error(),
         sink: sink.last_error(),
+        sizes,
         volume,
     };
     if let Some(cause) = Cause::find(status, refusal, errors) {

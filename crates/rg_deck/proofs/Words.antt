@@ -1,5 +1,5 @@
 -- Numbers and texts, as words.
-use Rattle.std.proofs.Common.{ℕ, ◌≡◌, ◌≢◌, ◌<◌, ◌+◌, ◌^◌, true, List, [], ◌∷◌, ◌++◌}
+use Rattle.std.proofs.Common.{ℕ, ◌≡◌, ◌≢◌, ◌<◌, ◌^◌, true, List, [], ◌∷◌, ◌++◌}
 use Rattle.std.proofs.Common.{length, drop, Option, Some, None, arith, sym, ◌∙◌}
 use Rattle.std.proofs.Common.{IfNone, IfSome}
 use Rattle.std.specs.Fmt.{decimal}

@@ -8,4 +8,5 @@ mod line;
 pub mod read;
 #[cfg(test)]
 mod tests;
-mod word;
+/// Words of a line.
+pub mod word;

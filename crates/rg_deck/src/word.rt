@@ -16,7 +16,7 @@ use rg_base::number::read_digits;
 use rg_base::text::{TEXT_LIMIT, Text, is_dashes};
 use std::alloc::Global;
 
-// The bytes before the first `mark`, and those after it.
+/// The bytes before the first `mark`, and those after it.
 pub fn split_at_byte(bytes: &[u8], mark: u8) -> Option<(&[u8], &[u8])>
     ensures none { IfNone result (Lacks mark bytes.now) }
     ensures front { IfSome result (λ parts. Lacks mark parts.0.now) }
@@ -30,14 +30,14 @@ pub fn split_at_byte(bytes: &[u8], mark: u8) -> Option<(&[u8], &[u8])>
     None
 }
 
-// A number without a sign or a leading zero.
+/// A number without a sign or a leading zero.
 pub fn read_number(word: &[u8]) -> Option<u64>
     ensures { Finds (λ n. n < 2 ^ 64) decimal word.now result }
 {
     read_digits(word)
 }
 
-// A number and what stands behind the space after it.
+/// A number and what stands behind the space after it.
 #[tactic(auto, using(crate::proofs::Words::no_number_lacks))]
 pub fn split_number(bytes: &[u8]) -> Option<(u64, &[u8])>
     ensures none { IfNone result ((n : ℕ) (rest : List ℕ) → BeginsWithNumber bytes.now n rest → ⊥) }
@@ -47,7 +47,7 @@ pub fn split_number(bytes: &[u8]) -> Option<(u64, &[u8])>
     Some((read_number(word)?, rest))
 }
 
-// Two numbers.
+/// Two numbers.
 pub fn read_range(bytes: &[u8]) -> Option<(u64, u64)>
     ensures none { IfNone result ((lo hi : ℕ) → IsRange bytes.now lo hi → ⊥) }
     ensures found { IfSome result (λ range. IsRange bytes.now range.0 range.1) }
@@ -76,7 +76,7 @@ fn unescape(word: &[u8]) -> Option<&[u8]>
     }
 }
 
-// A text of 0 to 800 bytes.
+/// A text of 0 to 800 bytes.
 pub fn read_text(alloc: Global, word: &[u8]) -> Result<Option<Text>, NoMemory>
     ensures { IfOk result (Finds IsText text_word word.now) }
 {

@@ -1,3 +1,4 @@
 mod Causes
+mod Names
 mod Padding
 mod Untold

@@ -1,7 +1,8 @@
 -- What there is of a volume's file, and what a page is read from and written into.
-use Rattle.std.specs.Prelude.{ℕ, ◌≡◌, Bool, true, false, List, Option, replicate}
+use Rattle.std.specs.Prelude.{ℕ, ◌≡◌, true, false, List, Option, replicate}
 use Rattle.rg_base.specs.declared.set.Set.{Set}
 use Rattle.rg_file.specs.Pages.{ReadsPage, WritesPage}
+use Rattle.rg_file.specs.declared.sizes.Sizes.{Sizes}
 use Rattle.rg_file.specs.declared.volume.VolumeFile.{VolumeFile}
 use Rattle.rg_file.specs.declared.volume.VolumeFile.TheVariants.{Missing, There, Lost}
 
@@ -39,18 +40,19 @@ BecomesWhole {F} old new = (file : F) × BeginsAs old file × (new ≡ There fil
 
 -- A page was read: of a new volume zeros, and else from its place in the file.
 abbrev pub ReadsFrom : {F : Type 0}
-    → (F → Option ℕ) → (F → Option (List ℕ)) → (F → Option (List ℕ))
+    → Sizes → (F → Option ℕ) → (F → Option (List ℕ)) → (F → Option (List ℕ))
     → VolumeFile F → Set → ℕ → List ℕ → Type 0
-ReadsFrom position stored remaining Missing set page bytes = bytes ≡ replicate 4096 0
-ReadsFrom position stored remaining (There file false) set page bytes = bytes ≡ replicate 4096 0
-ReadsFrom position stored remaining (There file true) set page bytes =
-    ReadsPage position stored remaining file set page bytes
-ReadsFrom position stored remaining (Lost error) set page bytes = ⊥
+ReadsFrom sizes position stored remaining Missing set page bytes = bytes ≡ replicate 4096 0
+ReadsFrom sizes position stored remaining (There file false) set page bytes =
+    bytes ≡ replicate 4096 0
+ReadsFrom sizes position stored remaining (There file true) set page bytes =
+    ReadsPage sizes position stored remaining file set page bytes
+ReadsFrom sizes position stored remaining (Lost error) set page bytes = ⊥
 
 -- A page was written to its place in the file, which is whole then.
 abbrev pub WritesInto : {F : Type 0}
-    → (F → Option ℕ) → (F → Option (List ℕ)) → (F → Option (List ℕ))
+    → Sizes → (F → Option ℕ) → (F → Option (List ℕ)) → (F → Option (List ℕ))
     → VolumeFile F → Set → ℕ → List ℕ → VolumeFile F → Type 0
-WritesInto {F} position stored contents old set page bytes new =
+WritesInto {F} sizes position stored contents old set page bytes new =
     (before : F) × (after : F) × BeginsAs old before × (new ≡ There after true)
-    × WritesPage position stored contents before set page bytes after
+    × WritesPage sizes position stored contents before set page bytes after

@@ -14,12 +14,16 @@ pub mod faults;
 mod faulty;
 /// The folder of a volume.
 pub mod folder;
+/// Laws of the names of volumes.
+pub mod laws;
 /// An operator over the clock.
 pub mod operator;
 /// Reading a small file whole.
 pub mod reading;
 /// A sink over a writer.
 pub mod sink;
+/// The sizes of a volume.
+pub mod sizes;
 /// A source over a reader.
 pub mod source;
 /// A volume over one file.

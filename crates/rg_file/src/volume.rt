@@ -14,11 +14,13 @@ ghost use Rattle.std.specs.Io.KnownBytes.{Appends, Keeps};
 ghost use Rattle.std.specs.Io.Seek.{MovesTo};
 ghost use Rattle.rg_outside.specs.Capacities.{IsPage};
 ghost use Rattle.rg_outside.specs.Faults.{HasCause};
-ghost use Rattle.rg_file.specs.Pages.{file_capacities, offset_of, padded, ReadsPage};
+ghost use Rattle.rg_file.specs.Pages.{offset_of, padded, ReadsPage};
+ghost use Rattle.rg_file.specs.Sizes.{file_capacities};
 ghost use Rattle.rg_file.specs.State.{IsLost, IsNotWhole, IsWhole, BecomesWhole};
 
 use crate::calls::{fill, seek_through, sync_through, write_through};
 use crate::faults::Faults;
+use crate::sizes::Sizes;
 use rg_base::set::Set;
 use rg_outside::source::Failed;
 use rg_outside::volume::Volume;
@@ -30,9 +32,6 @@ mod tests;
 
 // How many bytes a page has.
 const PAGE: u64 = 4096;
-
-/// How many bytes a volume has: 8,192 pages of the log, and 4,096 of each copy of the table.
-pub const VOLUME_LENGTH: u64 = (8192 + 4096 + 4096) * PAGE;
 
 /// What makes the file of a new volume.
 pub trait FileMaker {
@@ -56,25 +55,27 @@ pub enum VolumeFile<F> {
     Lost { error: Error },
 }
 
-/// A volume over one file: 8,192 pages of the log, and then 4,096 of each copy of the table. It
-/// reports nothing of its contents. Each interrupted read, write, seek and sync of a page is tried
+/// A volume over one file: the pages of the log, and then those of each copy of the table, as many
+/// as its sizes say. It reports nothing of its contents. Each interrupted read, write, seek and sync of a page is tried
 /// again, at most [`TRIES`](crate::TRIES) times in all. Making the file and giving it its length
 /// are not: the next write tries that again. Each call of the system that ended with an error, and
 /// each write that took none of some bytes, is counted as a fault.
 #[derive(Drop)]
 pub struct FileVolume<M, F> {
     maker: M,
+    sizes: Sizes,
     file: VolumeFile<F>,
     faults: Faults,
 }
 
 impl<M: FileMaker<File = F>, F: OpenFile + Drop> FileVolume<M, F> {
-    /// A volume over this file. Where there is none yet, `maker` makes it.
-    pub fn new(maker: M, file: VolumeFile<F>) -> Self
-        ensures { result ≡ record { maker = maker; file = file; faults = 0 } }
+    /// A volume of these sizes over this file. Where there is none yet, `maker` makes it.
+    pub fn new(maker: M, sizes: Sizes, file: VolumeFile<F>) -> Self
+        ensures { result ≡ record { maker = maker; sizes = sizes; file = file; faults = 0 } }
     {
         FileVolume {
             maker,
+            sizes,
             file,
             faults: Faults::none(),
         }
@@ -90,12 +91,13 @@ impl<M: FileMaker<File = F>, F: OpenFile + Drop> FileVolume<M, F> {
         ensures whole { OnOk result (BecomesWhole self.old.file self.new.file) }
         ensures waits { OnErr result (IsNotWhole self.new.file) }
         ensures lost { IsLost self.old.file → IsErr result }
+        ensures sizes { self.new.sizes ≡ self.old.sizes }
         ensures cause { HasCause self.old.faults self.new.faults result }
     {
         match &mut self.file {
             VolumeFile::There { is_whole: true, .. } => Ok(()),
             VolumeFile::There { file, is_whole } => {
-                let stretched = stretch(&self.maker, file);
+                let stretched = stretch(&self.maker, file, self.sizes.length());
                 self.faults.pass(stretched)?;
                 *is_whole = true;
                 Ok(())
@@ -110,11 +112,12 @@ impl<M: FileMaker<File = F>, F: OpenFile + Drop> FileVolume<M, F> {
         requires { IsNotWhole self.now.file }
         ensures whole { OnOk result (IsWhole self.new.file) }
         ensures waits { OnErr result (IsNotWhole self.new.file) }
+        ensures sizes { self.new.sizes ≡ self.old.sizes }
         ensures cause { HasCause self.old.faults self.new.faults result }
     {
         let made = self.maker.make();
         let file = self.faults.pass(made)?;
-        let stretched = stretch(&self.maker, &file);
+        let stretched = stretch(&self.maker, &file, self.sizes.length());
         self.file = VolumeFile::There {
             file,
             is_whole: stretched.is_ok(),
@@ -124,8 +127,12 @@ impl<M: FileMaker<File = F>, F: OpenFile + Drop> FileVolume<M, F> {
 }
 
 // Gives a file without a byte its length, and makes both its length and its name durable.
-fn stretch<M: FileMaker<File = F>, F: OpenFile>(maker: &M, file: &F) -> io::Result<()> {
-    file.set_len(VOLUME_LENGTH)?;
+fn stretch<M: FileMaker<File = F>, F: OpenFile>(
+    maker: &M,
+    file: &F,
+    length: u64,
+) -> io::Result<()> {
+    file.set_len(length)?;
     file.sync_all()?;
     maker.sync_name()
 }
@@ -137,30 +144,28 @@ impl<M: FileMaker<File = F>, F: Read + Write + Seek + OpenFile + Drop> Volume fo
     ghost seen = { λ v. record {
       told = None;
       faults = v.faults;
-      capacities = file_capacities;
+      capacities = file_capacities v.sizes;
     } };
 
     fn capacity(&self, set: Set) -> u32 {
-        match set {
-            Set::Log => 8192,
-            Set::First | Set::Second => 4096,
-        }
+        self.sizes.capacity(set)
     }
 
     fn read(&mut self, set: Set, page: u32, into: &mut [u8; 4096]) -> Result<(), Failed>
-        requires { IsPage file_capacities set page }
+        requires { IsPage (file_capacities self.now.sizes) set page }
         ensures kept { OnErr result (into.new ≡ into.old) }
         ensures cause { HasCause self.old.faults self.new.faults result }
         ensures lost { IsLost self.old.file → IsErr result }
         ensures new { IsNew self.old.file → IsOk result × (self.new.file ≡ self.old.file) }
-        ensures page { OnOk result (ReadsFrom F.stream_position F.stream_bytes F.remaining
+        ensures sizes { self.new.sizes ≡ self.old.sizes }
+        ensures page { OnOk result (ReadsFrom self.old.sizes F.stream_position F.stream_bytes F.remaining
             self.old.file set page into.new) }
     {
         match &mut self.file {
             VolumeFile::There {
                 file,
                 is_whole: true,
-            } => read_page(file, set, page, into, &mut self.faults),
+            } => read_page(file, self.sizes, set, page, into, &mut self.faults),
             VolumeFile::There { .. } | VolumeFile::Missing => {
                 *into = [0; 4096];
                 Ok(())
@@ -170,17 +175,18 @@ impl<M: FileMaker<File = F>, F: Read + Write + Seek + OpenFile + Drop> Volume fo
     }
 
     fn write(&mut self, set: Set, page: u32, from: &[u8; 4096]) -> Result<(), Failed>
-        requires { IsPage file_capacities set page }
+        requires { IsPage (file_capacities self.now.sizes) set page }
         ensures cause { HasCause self.old.faults self.new.faults result }
         ensures lost { IsLost self.old.file → IsErr result }
-        ensures page { OnOk result (WritesInto F.stream_position F.stream_bytes F.contents
+        ensures sizes { self.new.sizes ≡ self.old.sizes }
+        ensures page { OnOk result (WritesInto self.old.sizes F.stream_position F.stream_bytes F.contents
             self.old.file set page from.now self.new.file) }
     {
         self.make_whole()?;
         let VolumeFile::There { file, .. } = &mut self.file else {
             unreachable!();
         };
-        seek_page(file, set, page, &mut self.faults)?;
+        seek_page(file, self.sizes, set, page, &mut self.faults)?;
         write_whole(file, from, &mut self.faults)
     }
 
@@ -188,6 +194,7 @@ impl<M: FileMaker<File = F>, F: Read + Write + Seek + OpenFile + Drop> Volume fo
         ensures cause { HasCause self.old.faults self.new.faults result }
         ensures lost { IsLost self.old.file → IsErr result }
         ensures new { IsNew self.old.file → IsOk result }
+        ensures sizes { self.new.sizes ≡ self.old.sizes }
         ensures same { self.new.file ≡ self.old.file }
     {
         match &self.file {
@@ -208,44 +215,51 @@ impl<M: FileMaker<File = F>, F: Read + Write + Seek + OpenFile + Drop> Volume fo
 }
 
 // The place of a page's first byte in the file.
-fn offset(set: Set, page: u32) -> u64
-    requires { IsPage file_capacities set page }
-    ensures { result ≡ offset_of set page }
+fn offset(sizes: Sizes, set: Set, page: u32) -> u64
+    requires { IsPage (file_capacities sizes) set page }
+    ensures { result ≡ offset_of sizes set page }
 {
     let before = match set {
         Set::Log => 0,
-        Set::First => 8192,
-        Set::Second => 8192 + 4096,
+        Set::First => u64::from(sizes.log),
+        Set::Second => u64::from(sizes.log) + u64::from(sizes.copy),
     };
     (before + (page as u64 - 1)) * PAGE
 }
 
 // Goes to the first byte of a page.
-fn seek_page<F: Seek>(file: &mut F, set: Set, page: u32, faults: &mut Faults) -> Result<(), Failed>
-    requires { IsPage file_capacities set page }
+fn seek_page<F: Seek>(
+    file: &mut F,
+    sizes: Sizes,
+    set: Set,
+    page: u32,
+    faults: &mut Faults,
+) -> Result<(), Failed>
+    requires { IsPage (file_capacities sizes) set page }
     ensures moved { MovesTo
-        (F.stream_position file.old) (F.stream_position file.new) (offset_of set page) result }
+        (F.stream_position file.old) (F.stream_position file.new) (offset_of sizes set page) result }
     ensures bytes { Keeps (F.stream_bytes file.old) (F.stream_bytes file.new) }
     ensures cause { HasCause faults.old faults.new result }
 {
-    seek_through(file, offset(set, page), faults)
+    seek_through(file, offset(sizes, set, page), faults)
 }
 
 // Reads a page from its place.
 fn read_page<F: Read + Seek>(
     file: &mut F,
+    sizes: Sizes,
     set: Set,
     page: u32,
     into: &mut [u8; 4096],
     faults: &mut Faults,
 ) -> Result<(), Failed>
-    requires { IsPage file_capacities set page }
+    requires { IsPage (file_capacities sizes) set page }
     ensures kept { OnErr result (into.new ≡ into.old) }
-    ensures page { OnOk result (ReadsPage F.stream_position F.stream_bytes F.remaining
+    ensures page { OnOk result (ReadsPage sizes F.stream_position F.stream_bytes F.remaining
         file.old set page into.new) }
     ensures cause { HasCause faults.old faults.new result }
 {
-    seek_page(file, set, page, faults)?;
+    seek_page(file, sizes, set, page, faults)?;
     let mut bytes = [0; 4096];
     read_padded(file, &mut bytes, faults)?;
     *into = bytes;

@@ -1,6 +1,7 @@
-use super::{FileMaker, FileVolume, VOLUME_LENGTH, VolumeFile, offset};
+use super::{FileMaker, FileVolume, VolumeFile, offset};
 use crate::faults::Faults;
 use crate::faulty::Faulty;
+use crate::sizes::Sizes;
 use rg_base::set::Set;
 use rg_outside::source::Failed;
 use rg_outside::volume::Volume;
@@ -64,7 +65,11 @@ fn working<'a>(alloc: Global) -> Maker<'a> {
 
 fn whole<'a>(alloc: Global, file: Faulty<'a>) -> FileVolume<Maker<'a>, Faulty<'a>> {
     let is_whole = true;
-    FileVolume::new(idle(alloc), VolumeFile::There { file, is_whole })
+    FileVolume::new(
+        idle(alloc),
+        Sizes::standard(),
+        VolumeFile::There { file, is_whole },
+    )
 }
 
 // The file of a volume that has one.
@@ -77,13 +82,14 @@ fn file_of<'a>(volume: FileVolume<Maker<'a>, Faulty<'a>>) -> Result<(Faulty<'a>,
 
 #[test]
 fn sets_stand_one_after_another(rt: HostRuntime) {
-    assert_eq!(rt; offset(Set::Log, 1), 0);
-    assert_eq!(rt; offset(Set::Log, 8192), 33_550_336);
-    assert_eq!(rt; offset(Set::First, 1), 33_554_432);
-    assert_eq!(rt; offset(Set::First, 4096), 50_327_552);
-    assert_eq!(rt; offset(Set::Second, 1), 50_331_648);
-    assert_eq!(rt; offset(Set::Second, 4096), 67_104_768);
-    assert_eq!(rt; VOLUME_LENGTH, 67_108_864);
+    let sizes = Sizes::standard();
+    assert_eq!(rt; offset(sizes, Set::Log, 1), 0);
+    assert_eq!(rt; offset(sizes, Set::Log, 8192), 33_550_336);
+    assert_eq!(rt; offset(sizes, Set::First, 1), 33_554_432);
+    assert_eq!(rt; offset(sizes, Set::First, 4096), 50_327_552);
+    assert_eq!(rt; offset(sizes, Set::Second, 1), 50_331_648);
+    assert_eq!(rt; offset(sizes, Set::Second, 4096), 67_104_768);
+    assert_eq!(rt; sizes.length(), 67_108_864);
 }
 
 // The rest follows a short write. A write of nothing fails, and so does an error other than an
@@ -164,7 +170,7 @@ fn first_write_makes_the_file(rt: HostRuntime) -> Result<(), Fail> {
             make,
             sync,
         };
-        let mut volume = FileVolume::new(maker, VolumeFile::Missing);
+        let mut volume = FileVolume::new(maker, Sizes::standard(), VolumeFile::Missing);
         let mut page = [1; 4096];
         assert_eq!(rt; volume.read(Set::Second, 4096, &mut page), Ok(()));
         assert!(rt; page == [0; 4096]);
@@ -183,7 +189,7 @@ fn first_write_makes_the_file(rt: HostRuntime) -> Result<(), Fail> {
             }
             other => other,
         };
-        let mut volume = FileVolume::new(working(rt.alloc()), file);
+        let mut volume = FileVolume::new(working(rt.alloc()), Sizes::standard(), file);
         assert_eq!(rt; volume.write(Set::Log, 2, &[8; 4096]), Ok(()));
         assert_eq!(rt; volume.faults.count(), 0);
         let (file, is_whole) = file_of(volume)?;
@@ -200,7 +206,8 @@ fn capacities<V: Volume + Send>(volume: &V) -> [u32; 3] {
 #[test]
 fn fails_without_a_file(rt: HostRuntime) -> Result<(), Fail> {
     let error = ErrorKind::PermissionDenied.into();
-    let mut volume = FileVolume::new(idle(rt.alloc()), VolumeFile::Lost { error });
+    let lost = VolumeFile::Lost { error };
+    let mut volume = FileVolume::new(idle(rt.alloc()), Sizes::standard(), lost);
     assert_eq!(rt; capacities(&volume), [8192, 4096, 4096]);
     let mut into = [9; 4096];
     assert_eq!(rt; volume.read(Set::Log, 1, &mut into), Err(Failed));
