@@ -44,8 +44,6 @@ pub mod set;
 pub mod step;
 /// Tables of rows.
 pub mod table;
-#[cfg(test)]
-mod tests;
 /// The text of a row.
 pub mod text;
 /// The numbers of transactions.

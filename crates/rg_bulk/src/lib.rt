@@ -5,5 +5,3 @@
 pub mod build;
 /// The nodes.
 pub mod node;
-#[cfg(test)]
-mod tests;

@@ -7,5 +7,3 @@ pub mod claims;
 mod class;
 /// Laws of the definitions.
 pub mod laws;
-#[cfg(test)]
-mod tests;

@@ -6,7 +6,5 @@ pub mod laws;
 mod line;
 /// The lines of a deck.
 pub mod read;
-#[cfg(test)]
-mod tests;
 /// Words of a line.
 pub mod word;

@@ -13,5 +13,3 @@ pub mod outlet;
 pub mod fold;
 /// What a desk keeps of the items that it has sent to a utility.
 pub mod sent_items;
-#[cfg(test)]
-mod tests;

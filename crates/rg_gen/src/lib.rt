@@ -9,5 +9,3 @@ pub mod laws;
 pub mod make;
 /// The line that sums up a run.
 pub mod summary;
-#[cfg(test)]
-mod tests;

@@ -5,8 +5,6 @@
 pub mod index;
 /// Laws of the definitions: which entries an index has of rows with places.
 pub mod laws;
-#[cfg(test)]
-mod tests;
 /// Searches in entries that rise.
 pub mod search;
 /// An index in a sorted vector.

@@ -7,5 +7,3 @@ pub mod laws;
 pub mod locks;
 // The lists of the keys that sessions took.
 mod owned;
-#[cfg(test)]
-mod tests;

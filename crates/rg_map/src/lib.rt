@@ -6,5 +6,3 @@
 pub mod laws;
 /// The mapping table.
 pub mod table;
-#[cfg(test)]
-mod tests;

@@ -13,7 +13,5 @@ pub mod script;
 pub mod sink;
 /// Sources over bytes.
 pub mod source;
-#[cfg(test)]
-mod tests;
 /// A volume of pages.
 pub mod volume;

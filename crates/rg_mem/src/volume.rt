@@ -545,6 +545,3 @@ fn noted_write(set: Set, page: u32, at: usize, fault: Option<Failing>) -> Noted
         },
     }
 }
-
-#[cfg(test)]
-mod tests;

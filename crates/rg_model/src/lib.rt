@@ -5,5 +5,3 @@
 pub mod laws;
 /// The definitions as a plain, slow program.
 pub mod plain;
-#[cfg(test)]
-mod tests;

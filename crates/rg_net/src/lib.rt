@@ -3,5 +3,3 @@
 
 /// The net of changes.
 pub mod net;
-#[cfg(test)]
-mod tests;

@@ -15,7 +15,5 @@ mod setting;
 mod settings;
 /// The control statement, and the options of an ALTER.
 pub mod statement;
-#[cfg(test)]
-mod tests;
 /// The words of a line.
 pub mod words;

@@ -16,7 +16,5 @@ pub mod pair;
 pub mod sink;
 /// Where bytes come from.
 pub mod source;
-#[cfg(test)]
-mod tests;
 /// The pages of the log and of both copies of the table.
 pub mod volume;

@@ -9,7 +9,5 @@ pub mod print;
 mod push;
 /// The texts of replies.
 mod reply;
-#[cfg(test)]
-mod tests;
 /// The texts of the utility's steps.
 mod utility;

@@ -13,5 +13,3 @@ pub mod tally;
 /// The numbers of a running utility, and how each entry of the trace changes them. Nothing here
 /// takes memory or calls a volume.
 pub mod stage;
-#[cfg(test)]
-mod tests;

@@ -15,5 +15,3 @@ mod log;
 pub mod start;
 /// What the next step makes, and what the operator wants.
 pub mod step;
-#[cfg(test)]
-mod tests;

@@ -8,5 +8,3 @@ pub mod pages;
 pub mod sums;
 /// Changes and quiet keys.
 pub mod tally;
-#[cfg(test)]
-mod tests;

@@ -11,5 +11,3 @@ pub mod line;
 pub mod rows;
 /// Statements and replies.
 pub mod stmt;
-#[cfg(test)]
-mod tests;

@@ -3,9 +3,13 @@
 #![tactic(auto)]
 
 #[cfg(test)]
+mod bulk;
+#[cfg(test)]
 mod indexes;
 #[cfg(test)]
 mod layout;
+#[cfg(test)]
+mod sorted;
 #[cfg(test)]
 mod space;
 #[cfg(test)]

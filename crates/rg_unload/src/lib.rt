@@ -2,6 +2,4 @@
 #![tactic(auto)]
 
 /// One page copied.
-#[cfg(test)]
-mod tests;
 pub mod unload;

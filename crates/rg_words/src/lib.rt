@@ -5,7 +5,5 @@
 pub mod laws;
 // Options and their values.
 mod option;
-#[cfg(test)]
-mod tests;
 /// The commands, from their words.
 pub mod words;
