@@ -1,7 +1,6 @@
 ghost use Rattle.std.specs.Prelude.{◌≡◌, ◌≤◌};
 ghost use Rattle.rg_mem.specs.Shown.{capacities_of};
 
-use rg_base::bytes::Bytes;
 use rg_base::no_memory::NoMemory;
 use rg_base::part::{Part, Parts, SlotOp};
 use rg_base::place::Place;
@@ -19,7 +18,6 @@ use rg_mem::volume::{Failing, MemVolume};
 use rg_outside::volume::Volume;
 use rg_record::buffer::PAGE_SIZE;
 use rg_record::record::{Kind, Record};
-use rg_record::write::write_record;
 use std::alloc::Global;
 use std::process::Abort;
 use std::test::Fail;
@@ -147,16 +145,6 @@ fn reserves_up_to_the_limit(rt: HostRuntime) -> Result<(), Fail> {
         log.give_back(limit);
         assert_eq!(rt; log.reserved(), 0);
     }
-    Ok(())
-}
-
-#[test]
-fn reads_first_session(rt: HostRuntime) -> Result<(), Fail> {
-    let page = page_of(&FIRST);
-    let records = read_page(rt.alloc(), &page, 1)?.ok_or("a page")?;
-    assert_eq!(rt; records.len(), 2);
-    assert_eq!(rt; records[1].position, Position(2));
-    assert!(rt; matches!(records[1].kind, Kind::Commit));
     Ok(())
 }
 
@@ -304,149 +292,6 @@ fn forces_first_session(rt: HostRuntime) -> Result<(), Fail> {
     Ok(())
 }
 
-// A page holds 177 commits.
-#[test]
-fn reads_back_what_was_forced(rt: HostRuntime) -> Result<(), Fail> {
-    for piece in [1, 50, 59, 200, 400] {
-        let mut held = Held::new(rt.alloc(), &[], None)?;
-        held.add_commits(&rt, 1, 400, piece)?;
-        let mut again = held.crashed(rt.alloc(), piece)?;
-        let log = &again.log;
-        let last = 400 - 400 % piece;
-        assert_eq!(rt; (log.last().0, log.forced().0), (last, last), "{piece}");
-        assert_eq!(rt;
-            (log.used() as u64, log.reserved()),
-            (23 * last, 0),
-            "{piece}"
-        );
-        assert_eq!(rt; log.limit(), 52210, "{piece}");
-        again.has_commits(&rt, rt.alloc(), 1)?;
-        again.add_commits(&rt, last + 1, 450, 450)?;
-        let more = again.crashed(rt.alloc(), 0)?;
-        assert_eq!(rt; more.log.last(), Position(450), "{piece}");
-        more.has_commits(&rt, rt.alloc(), 1)?;
-    }
-    Ok(())
-}
-
-// One of each kind.
-fn kind_of(alloc: Global, number: u8) -> Result<Kind, NoMemory> {
-    Ok(match number {
-        2 => Kind::Undo {
-            next: Position(0),
-            home: HOME,
-            after: row(alloc)?,
-            parts: parts(alloc, SlotOp::DeadRow { capacity: 29 })?,
-        },
-        3 => Kind::Commit,
-        4 => Kind::RolledBack,
-        5 => Kind::Purge {
-            parts: parts(alloc, SlotOp::Free)?,
-        },
-        6 => Kind::Switch { copy: 2, pages: 3 },
-        _ => Kind::Change {
-            home: HOME,
-            before: row(alloc)?,
-            after: None,
-            parts: parts(alloc, SlotOp::DeadRow { capacity: 29 })?,
-        },
-    })
-}
-
-fn record_of(alloc: Global, number: u8) -> Result<Record, NoMemory> {
-    let tran = if number < 5 { 1 } else { 0 };
-    Ok(Record {
-        position: Position(u64::from(number)),
-        tran: Tran(tran),
-        back: Position(0),
-        kind: kind_of(alloc, number)?,
-    })
-}
-
-fn bytes_of(rt: &impl Abort, alloc: Global, entry: &Record) -> Result<Bytes, NoMemory> {
-    assert!(rt; entry.is_spelled());
-    write_record(alloc, entry)
-}
-
-// Each kind of record comes back from the volume as it was.
-#[test]
-fn reads_back_each_kind(rt: HostRuntime) -> Result<(), Fail> {
-    let mut held = Held::new(rt.alloc(), &[], None)?;
-    for number in 1..=6 {
-        held.add(&rt, record_of(rt.alloc(), number)?, true)?;
-    }
-    let again = held.crashed(rt.alloc(), 1)?;
-    assert_eq!(rt; again.log.last(), Position(6));
-    for number in 1..=6 {
-        let entry = again.log.read_at(rt.alloc(), Position(u64::from(number)))?;
-        let found = bytes_of(&rt, rt.alloc(), &entry)?;
-        let wanted = bytes_of(&rt, rt.alloc(), &record_of(rt.alloc(), number)?)?;
-        assert!(rt; found.as_slice() == wanted.as_slice(), "kind {number}");
-    }
-    Ok(())
-}
-
-fn end_at(position: u64, tran: u32) -> Record {
-    Record {
-        position: Position(position),
-        tran: Tran(tran),
-        back: Position(position.saturating_sub(1)),
-        kind: Kind::Commit,
-    }
-}
-
-// Whether each two records are of the next transaction, an insert and a commit.
-fn are_sessions(records: &[Record]) -> bool {
-    for (n, entry) in records.iter().enumerate() {
-        let of_tran = entry.tran.0 as usize == n / 2 + 1;
-        if !of_tran || matches!(entry.kind, Kind::Commit) != (n % 2 == 1) {
-            return false;
-        }
-    }
-    true
-}
-
-// Each of 300 transactions inserts a row and commits, in 95 bytes, and is forced. Two pages hold 85
-// of them: 42 and an insert on the one, its commit and 42 on the other.
-#[test]
-fn reads_back_three_hundred_commits(rt: HostRuntime) -> Result<(), Fail> {
-    let mut held = Held::new(rt.alloc(), &[], None)?;
-    for tran in 1..=300 {
-        let position = u64::from(tran) * 2;
-        held.add(&rt, insert_at(rt.alloc(), position - 1, tran)?, false)?;
-        held.add(&rt, end_at(position, tran), true)?;
-        assert_eq!(rt; held.log.forced(), Position(position));
-    }
-    let mut again = held.crashed(rt.alloc(), 5)?;
-    assert_eq!(rt;
-        (again.log.last(), again.log.used()),
-        (Position(600), 28500)
-    );
-    assert!(rt; are_sessions(again.log.records()));
-    assert!(rt; again.page(8) != Some([0; PAGE_SIZE]));
-    assert!(rt; again.page(9) == Some([0; PAGE_SIZE]));
-    Ok(())
-}
-
-// The log makes twelve calls: it is forced four times, and twice it goes on to a next page.
-#[test]
-fn keeps_what_was_forced(rt: HostRuntime) -> Result<(), Fail> {
-    for stop in 0..=12 {
-        let mut held = Held::new(rt.alloc(), &[], Some(stop))?;
-        held.add_commits(&rt, 1, 400, 100)?;
-        let forced = held.log.forced();
-        assert_eq!(rt; forced.0 == 400, stop == 12, "{stop}");
-        assert_eq!(rt; forced.0 == 0, stop < 2, "{stop}");
-        for pick in 0..8 {
-            let left = held.crashed(rt.alloc(), pick)?;
-            let last = left.log.last();
-            assert!(rt; forced.0 <= last.0 && last.0 <= 400, "{stop}, {pick}");
-            left.has_commits(&rt, rt.alloc(), 1)?;
-        }
-    }
-    Ok(())
-}
-
 #[test]
 fn names_damaged_pages(rt: HostRuntime) -> Result<(), Fail> {
     for (page, at, byte) in [
@@ -489,16 +334,5 @@ fn names_page_after_short_one(rt: HostRuntime) -> Result<(), Fail> {
     assert!(rt; held.put(1, &bytes));
     assert!(rt; held.volume.sync().is_ok());
     assert_eq!(rt; damaged_page(held.crashed(rt.alloc(), 0)), Some(2));
-    Ok(())
-}
-
-// Opening pages of zeros makes a sync and a read.
-#[test]
-fn names_a_failed_call(rt: HostRuntime) -> Result<(), Fail> {
-    for (stop, fails) in [(0, true), (1, true), (2, false)] {
-        let mut held = Held::new(rt.alloc(), &[], Some(stop))?;
-        let opened = open_log(rt.alloc(), &mut held.volume);
-        assert_eq!(rt; matches!(opened, Err(LogFault::Device)), fails, "{stop}");
-    }
     Ok(())
 }

@@ -52,16 +52,6 @@ const SWITCH: [u8; 26] = [
     0, 0, 0, 0, 0, 0, 0, 12, 0, 0, 0, 0, 0, 0, 0, 0, 0, 0, 0, 0, 6, 2, 0, 0, 0, 3,
 ];
 
-const ALL: [&[u8]; 7] = [
-    &CHANGE,
-    &COMMIT,
-    &MOVE,
-    &UNDO,
-    &ROLLED_BACK,
-    &PURGE,
-    &SWITCH,
-];
-
 fn place(page: u32, slot: u16) -> Place {
     Place { page, slot }
 }
@@ -249,95 +239,6 @@ fn again(alloc: Global, bytes: &[u8]) -> Result<Option<Vec<u8>>, Fail> {
         Err(RecordFault::NotARecord) => Ok(None),
         Err(RecordFault::NoMemory) => Err(Fail::from(NoMemory)),
     }
-}
-
-#[test]
-fn reads_what_is_written(rt: HostRuntime) -> Result<(), Fail> {
-    for bytes in ALL {
-        let read = again(rt.alloc(), bytes)?.ok_or("a record")?;
-        assert_eq!(rt; read.as_slice(), bytes);
-    }
-    Ok(())
-}
-
-#[test]
-fn reads_first_session(rt: HostRuntime) -> Result<(), Fail> {
-    let insert = read_record(rt.alloc(), &CHANGE)?;
-    assert_eq!(rt;
-        (insert.position, insert.tran, insert.back),
-        (Position(1), Tran(1), Position(0))
-    );
-    let Kind::Change {
-        home,
-        before,
-        after,
-        parts,
-    } = insert.kind
-    else {
-        return Err(Fail::from(NoMemory));
-    };
-    assert_eq!(rt; home, place(1, 0));
-    assert!(rt; before.is_none());
-    let after = after.ok_or("a row")?;
-    assert_eq!(rt; (after.key, after.clus, after.cat), (5, 50, 1));
-    assert_eq!(rt; after.text.as_slice(), b"abc".as_slice());
-    assert_eq!(rt;
-        parts.as_slice(),
-        [part(1, 0, SlotOp::Row { capacity: 29 })].as_slice()
-    );
-    let commit = read_record(rt.alloc(), &COMMIT)?;
-    assert_eq!(rt;
-        (commit.position, commit.tran, commit.back),
-        (Position(2), Tran(1), Position(1))
-    );
-    assert!(rt; matches!(commit.kind, Kind::Commit));
-    Ok(())
-}
-
-// Each byte of each record, made wrong in four ways, makes the bytes another record's or none's.
-#[test]
-fn trusts_no_byte(rt: HostRuntime) -> Result<(), Fail> {
-    let mut refused: u64 = 0;
-    for bytes in ALL {
-        for at in 0..bytes.len() {
-            for flip in [1, 2, 128, 255] {
-                let mut wrong = bytes.to_vec(rt.alloc())?;
-                let byte = wrong.get_mut(at).ok_or("a byte")?;
-                *byte ^= flip;
-                match again(rt.alloc(), wrong.as_slice())? {
-                    None => refused = refused.wrapping_add(1),
-                    Some(read) => {
-                        assert_eq!(rt; read.as_slice(), wrong.as_slice());
-                        assert_ne!(rt; read.as_slice(), bytes);
-                    }
-                }
-            }
-        }
-    }
-    assert!(rt; refused > 0);
-    Ok(())
-}
-
-#[test]
-fn refuses_other_lengths(rt: HostRuntime) -> Result<(), Fail> {
-    for bytes in ALL {
-        for len in 0..bytes.len() {
-            let (front, _) = bytes.split_at(len);
-            assert!(rt;
-                again(rt.alloc(), front)?.is_none(),
-                "{len} of {}",
-                bytes.len()
-            );
-        }
-        let mut longer = bytes.to_vec(rt.alloc())?;
-        longer.push(0)?;
-        assert!(rt;
-            again(rt.alloc(), longer.as_slice())?.is_none(),
-            "{} and one",
-            bytes.len()
-        );
-    }
-    Ok(())
 }
 
 // One byte of a record replaced, by its number.

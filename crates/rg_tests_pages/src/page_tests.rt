@@ -2,7 +2,6 @@ ghost use Rattle.std.specs.Prelude.{◌≡◌, true, length, IfOk, OnOk};
 ghost use Rattle.rg_undo.specs.Undoing.{AreChanges, is_change};
 
 use rg_base::copy::TableCopy;
-use rg_base::map::NumberMap;
 use rg_base::part::{Part, Parts, SlotOp};
 use rg_base::place::Place;
 use rg_base::position::Position;
@@ -11,9 +10,7 @@ use rg_base::row_bytes::read_row;
 use rg_base::text::Text;
 use rg_base::tran::Tran;
 use rg_check::page_tests::needed::breach_of;
-use rg_check::page_tests::stored::{Standing, not_stored};
 use rg_check::page_tests::turns::{Outcome, undo_tested};
-use rg_check::page_tests::twice::twice;
 use rg_check::page_tests::untied::untied;
 use rg_page::frames::Frames;
 use rg_page::list::ListFrames;
@@ -142,38 +139,6 @@ fn untied_of(
         Err((_, fault)) => return Err(fault.into()),
     };
     Ok(untied(&mut space, live)?)
-}
-
-// How the home rows on three pages with these slots stand to these rows. Each row has a key and a
-// `cat`.
-fn standing_of(
-    rt: &impl Abort,
-    alloc: Global,
-    puts: &[Put],
-    rows: &[(u64, u64)],
-) -> Result<Standing, Fail> {
-    let mut frames = three_pages(alloc)?;
-    fill(rt, alloc, &mut frames, puts)?;
-    let mut space = match Space::new(alloc, frames, 3) {
-        Ok(space) => space,
-        Err((_, fault)) => return Err(fault.into()),
-    };
-    let mut stored = NumberMap::new(alloc);
-    for (key, cat) in rows {
-        stored.insert(*key, row(alloc, *key, *cat))?;
-    }
-    Ok(not_stored(alloc, &mut space, &stored)?)
-}
-
-// The place that `twice` names on three pages with these slots.
-fn twice_of(rt: &impl Abort, alloc: Global, puts: &[Put]) -> Result<Option<Place>, Fail> {
-    let mut frames = three_pages(alloc)?;
-    fill(rt, alloc, &mut frames, puts)?;
-    let mut space = match Space::new(alloc, frames, 3) {
-        Ok(space) => space,
-        Err((_, fault)) => return Err(fault.into()),
-    };
-    Ok(twice(alloc, &mut space)?)
 }
 
 // A row of so many bytes, 26 at least.
@@ -306,9 +271,18 @@ fn turns_text(
     outcome_text(alloc, &outcome)
 }
 
+// Slots, the transactions that are open, and the place that `untied` names.
+type Untied<'a> = (&'a [Put], &'a [Tran], Option<Place>);
+
+fn each_untied(rt: &impl Abort, alloc: Global, cases: &[Untied<'_>]) -> Result<(), Fail> {
+    for (i, (puts, live, want)) in cases.iter().enumerate() {
+        assert_eq!(rt; untied_of(rt, alloc, puts, live)?, *want, "case {i}");
+    }
+    Ok(())
+}
+
 #[test]
 fn what_a_slot_names_names_it(rt: HostRuntime) -> Result<(), Fail> {
-    let alloc = rt.alloc();
     let live = [Tran(4), Tran(5)];
     let whole = [
         home(1, 0, 7),
@@ -324,137 +298,102 @@ fn what_a_slot_names_names_it(rt: HostRuntime) -> Result<(), Fail> {
         pointer(3, 2, at(3, 1)),
     ];
     // The Over area at 3.1 is named by the Pointer at 3.2, but names the dead home at 3.0.
-    assert_eq!(rt; untied_of(&rt, alloc, &whole[..9], &live)?, Some(at(3, 0)));
-    assert_eq!(rt; untied_of(&rt, alloc, &whole[..8], &live)?, None);
-    assert_eq!(rt; untied_of(&rt, alloc, &whole, &live)?, Some(at(3, 1)));
-    Ok(())
+    let cases: [Untied<'_>; 3] = [
+        (&whole[..9], &live, Some(at(3, 0))),
+        (&whole[..8], &live, None),
+        (&whole, &live, Some(at(3, 1))),
+    ];
+    each_untied(&rt, rt.alloc(), &cases)
 }
 
 #[test]
 fn pointers_and_over_areas_name_each_other(rt: HostRuntime) -> Result<(), Fail> {
-    let alloc = rt.alloc();
-    // A Pointer to a Free slot, past the last page, to another's area, and to a row.
-    let puts = [pointer(1, 1, at(2, 0))];
-    assert_eq!(rt; untied_of(&rt, alloc, &puts, &[])?, Some(at(1, 1)));
-    let puts = [pointer(2, 1, at(4, 0))];
-    assert_eq!(rt; untied_of(&rt, alloc, &puts, &[])?, Some(at(2, 1)));
-    let puts = [pointer(1, 1, at(2, 0)), over(2, 0, at(1, 2), 3)];
-    assert_eq!(rt; untied_of(&rt, alloc, &puts, &[])?, Some(at(1, 1)));
-    let puts = [home(1, 0, 7), pointer(1, 1, at(1, 0))];
-    assert_eq!(rt; untied_of(&rt, alloc, &puts, &[])?, Some(at(1, 1)));
-    // An Over area that names a row, and one that names another's Pointer. The least is named.
-    let puts = [home(1, 0, 7), over(2, 0, at(1, 0), 3)];
-    assert_eq!(rt; untied_of(&rt, alloc, &puts, &[])?, Some(at(2, 0)));
-    let puts = [
-        pointer(1, 1, at(2, 1)),
-        over(2, 0, at(1, 1), 3),
-        over(2, 1, at(1, 1), 3),
-        over(2, 3, at(1, 1), 3),
+    let cases: [Untied<'_>; 7] = [
+        // A Pointer to a Free slot, past the last page, to another's area, and to a row.
+        (&[pointer(1, 1, at(2, 0))], &[], Some(at(1, 1))),
+        (&[pointer(2, 1, at(4, 0))], &[], Some(at(2, 1))),
+        (
+            &[pointer(1, 1, at(2, 0)), over(2, 0, at(1, 2), 3)],
+            &[],
+            Some(at(1, 1)),
+        ),
+        (
+            &[home(1, 0, 7), pointer(1, 1, at(1, 0))],
+            &[],
+            Some(at(1, 1)),
+        ),
+        // An Over area that names a row, and one that names another's Pointer. The least is named.
+        (
+            &[home(1, 0, 7), over(2, 0, at(1, 0), 3)],
+            &[],
+            Some(at(2, 0)),
+        ),
+        (
+            &[
+                pointer(1, 1, at(2, 1)),
+                over(2, 0, at(1, 1), 3),
+                over(2, 1, at(1, 1), 3),
+                over(2, 3, at(1, 1), 3),
+            ],
+            &[],
+            Some(at(2, 0)),
+        ),
+        // The last slot of the last page.
+        (
+            &[home(1, 0, 7), home(3, 0, 8), over(3, 2, at(1, 0), 3)],
+            &[],
+            Some(at(3, 2)),
+        ),
     ];
-    assert_eq!(rt; untied_of(&rt, alloc, &puts, &[])?, Some(at(2, 0)));
-    // The last slot of the last page.
-    let puts = [home(1, 0, 7), home(3, 0, 8), over(3, 2, at(1, 0), 3)];
-    assert_eq!(rt; untied_of(&rt, alloc, &puts, &[])?, Some(at(3, 2)));
-    Ok(())
+    each_untied(&rt, rt.alloc(), &cases)
 }
 
 #[test]
 fn dead_homes_of_open_transactions_are_tested(rt: HostRuntime) -> Result<(), Fail> {
-    let alloc = rt.alloc();
-    let puts = [dead_pointer(1, 1, at(2, 0), 5)];
-    assert_eq!(rt;
-        untied_of(&rt, alloc, &puts, &[Tran(4), Tran(5)])?,
-        Some(at(1, 1))
-    );
-    assert_eq!(rt; untied_of(&rt, alloc, &puts, &[Tran(4), Tran(6)])?, None);
-    let puts = [
-        dead_pointer(1, 1, at(2, 0), 5),
-        dead_over(2, 0, at(1, 2), 5),
+    let cases: [Untied<'_>; 4] = [
+        (
+            &[dead_pointer(1, 1, at(2, 0), 5)],
+            &[Tran(4), Tran(5)],
+            Some(at(1, 1)),
+        ),
+        (
+            &[dead_pointer(1, 1, at(2, 0), 5)],
+            &[Tran(4), Tran(6)],
+            None,
+        ),
+        (
+            &[
+                dead_pointer(1, 1, at(2, 0), 5),
+                dead_over(2, 0, at(1, 2), 5),
+            ],
+            &[Tran(5)],
+            Some(at(1, 1)),
+        ),
+        (
+            &[
+                dead_pointer(1, 1, at(2, 0), 5),
+                dead_over(2, 0, at(1, 1), 9),
+            ],
+            &[Tran(5)],
+            None,
+        ),
     ];
-    assert_eq!(rt; untied_of(&rt, alloc, &puts, &[Tran(5)])?, Some(at(1, 1)));
-    let puts = [
-        dead_pointer(1, 1, at(2, 0), 5),
-        dead_over(2, 0, at(1, 1), 9),
-    ];
-    assert_eq!(rt; untied_of(&rt, alloc, &puts, &[Tran(5)])?, None);
-    Ok(())
+    each_untied(&rt, rt.alloc(), &cases)
 }
 
-#[test]
-fn the_least_place_of_a_key_that_stands_twice(rt: HostRuntime) -> Result<(), Fail> {
-    let alloc = rt.alloc();
-    let puts = [home(1, 0, 1), home(1, 1, 2), home(1, 2, 2), home(2, 0, 1)];
-    assert_eq!(rt; twice_of(&rt, alloc, &puts)?, Some(at(1, 0)));
-    assert_eq!(rt; twice_of(&rt, alloc, &puts[..3])?, Some(at(1, 1)));
-    assert_eq!(rt; twice_of(&rt, alloc, &puts[..2])?, None);
-    // A row that was moved has the place of its home.
-    let puts = [
-        over(1, 0, at(2, 0), 4),
-        pointer(2, 0, at(1, 0)),
-        home(3, 1, 9),
-        home(3, 2, 4),
-    ];
-    assert_eq!(rt; twice_of(&rt, alloc, &puts)?, Some(at(2, 0)));
-    Ok(())
-}
+// Slots, the bytes of the row before, the parts of the Change, and the place that breaks what its
+// undo needs.
+type Needed<'a> = (&'a [Put], Option<u16>, &'a [Part], Option<Place>);
 
-#[test]
-fn home_rows_are_the_stored_rows(rt: HostRuntime) -> Result<(), Fail> {
-    let alloc = rt.alloc();
-    let puts = [
-        over(1, 0, at(2, 0), 4),
-        dead_row(1, 1, 5),
-        pointer(2, 0, at(1, 0)),
-        home(3, 2, 9),
-    ];
-    let stored = [(4, 5), (9, 5)];
-    assert_eq!(rt; standing_of(&rt, alloc, &puts, &stored)?, Standing::Stored);
-    assert_eq!(rt; standing_of(&rt, alloc, &[], &[])?, Standing::Stored);
-    let more = [(4, 5), (6, 5), (9, 5)];
-    assert_eq!(rt; standing_of(&rt, alloc, &puts, &more)?, Standing::Missing);
-    // The last row has another `cat`, or is not stored. The first one is not, too.
-    let last = Standing::Strange { place: at(3, 2) };
-    assert_eq!(rt; standing_of(&rt, alloc, &puts, &[(4, 5), (9, 6)])?, last);
-    assert_eq!(rt; standing_of(&rt, alloc, &puts, &[(4, 5), (6, 5)])?, last);
-    let first = Standing::Strange { place: at(2, 0) };
-    assert_eq!(rt; standing_of(&rt, alloc, &puts, &[(6, 5)])?, first);
-    Ok(())
-}
-
-#[test]
-fn what_the_undo_of_an_insert_needs(rt: HostRuntime) -> Result<(), Fail> {
-    let alloc = rt.alloc();
-    assert_eq!(rt; breach(&rt, alloc, &[home(1, 1, 7)], None, &[])?, None);
-    let moved = [pointer(1, 1, at(2, 0)), over(2, 0, at(1, 1), 7)];
-    assert_eq!(rt; breach(&rt, alloc, &moved, None, &[])?, None);
-    assert_eq!(rt; breach(&rt, alloc, &[], None, &[])?, Some(at(1, 1)));
-    assert_eq!(rt;
-        breach(&rt, alloc, &[dead_row(1, 1, 5)], None, &[])?,
-        Some(at(1, 1))
-    );
-    let moved = [over(1, 1, at(2, 0), 7)];
-    assert_eq!(rt; breach(&rt, alloc, &moved, None, &[])?, Some(at(1, 1)));
+fn each_breach(rt: &impl Abort, alloc: Global, cases: &[Needed<'_>]) -> Result<(), Fail> {
+    for (i, (puts, before, parts, want)) in cases.iter().enumerate() {
+        assert_eq!(rt; breach(rt, alloc, puts, *before, parts)?, *want, "case {i}");
+    }
     Ok(())
 }
 
 #[test]
 fn what_the_undo_of_a_change_needs(rt: HostRuntime) -> Result<(), Fail> {
-    let alloc = rt.alloc();
-    // The row before fits the home, which may be dead.
-    assert_eq!(rt;
-        breach(&rt, alloc, &[dead_row(1, 1, 5)], Some(30), &[])?,
-        None
-    );
-    assert_eq!(rt;
-        breach(&rt, alloc, &[dead_row(1, 1, 5)], Some(31), &[])?,
-        Some(at(1, 1))
-    );
-    assert_eq!(rt; breach(&rt, alloc, &[], Some(26), &[])?, Some(at(1, 1)));
-    // Or it fits the Over area that it had, which may be dead and has to name the home.
-    let left = SlotOp::DeadOver {
-        capacity: 40,
-        other: at(1, 1),
-    };
     let parts = [
         Part {
             page: 1,
@@ -464,42 +403,64 @@ fn what_the_undo_of_a_change_needs(rt: HostRuntime) -> Result<(), Fail> {
         Part {
             page: 2,
             slot: 0,
-            op: left,
+            op: SlotOp::DeadOver {
+                capacity: 40,
+                other: at(1, 1),
+            },
         },
     ];
     let area = Some(at(2, 0));
-    let puts = [dead_row(1, 1, 5), dead_over(2, 0, at(1, 1), 5)];
-    assert_eq!(rt; breach(&rt, alloc, &puts, Some(40), &parts)?, None);
-    assert_eq!(rt; breach(&rt, alloc, &puts, Some(41), &parts)?, area);
-    let puts = [pointer(1, 1, at(2, 0)), over(2, 0, at(1, 1), 5)];
-    assert_eq!(rt; breach(&rt, alloc, &puts, Some(40), &parts)?, None);
-    let puts = [dead_row(1, 1, 5), dead_over(2, 0, at(1, 2), 5)];
-    assert_eq!(rt; breach(&rt, alloc, &puts, Some(40), &parts)?, area);
-    assert_eq!(rt;
-        breach(&rt, alloc, &puts[1..], Some(40), &parts)?,
-        Some(at(1, 1))
-    );
-    assert_eq!(rt; breach(&rt, alloc, &puts[..1], Some(40), &parts)?, area);
+    let both = [dead_row(1, 1, 5), dead_over(2, 0, at(1, 1), 5)];
+    let strange = [dead_row(1, 1, 5), dead_over(2, 0, at(1, 2), 5)];
+    let cases: [Needed<'_>; 9] = [
+        // The row before fits the home, which may be dead.
+        (&both[..1], Some(30), &[], None),
+        (&both[..1], Some(31), &[], Some(at(1, 1))),
+        (&[], Some(26), &[], Some(at(1, 1))),
+        // Or it fits the Over area that it had, which may be dead and has to name the home.
+        (&both, Some(40), &parts, None),
+        (&both, Some(41), &parts, area),
+        (
+            &[pointer(1, 1, at(2, 0)), over(2, 0, at(1, 1), 5)],
+            Some(40),
+            &parts,
+            None,
+        ),
+        (&strange, Some(40), &parts, area),
+        (&strange[1..], Some(40), &parts, Some(at(1, 1))),
+        (&strange[..1], Some(40), &parts, area),
+    ];
+    each_breach(&rt, rt.alloc(), &cases)
+}
+
+// Slots, Changes at their homes, and what the turns of the Changes come to.
+type Turns<'a> = (&'a [Put], &'a [(u16, Option<u64>)], &'a str);
+
+fn each_turns(rt: &impl Abort, alloc: Global, cases: &[Turns<'_>]) -> Result<(), Fail> {
+    for (i, (puts, changes, want)) in cases.iter().enumerate() {
+        let got = turns_text(rt, alloc, puts, changes)?;
+        assert_eq!(rt; got.as_str(), *want, "case {i}");
+    }
     Ok(())
 }
 
 #[test]
 fn each_change_is_tested_at_its_turn(rt: HostRuntime) -> Result<(), Fail> {
-    let alloc = rt.alloc();
-    let puts = [home(1, 1, 7)];
-    let text = turns_text(&rt, alloc, &puts, &[(1, Some(3)), (1, None)])?;
-    assert_eq!(rt; text.as_str(), "9 8, 1.1 3\n10 9, 1.1 none\n");
-    // The row of an insert is there once the later drop is undone, and not before.
-    let puts = [dead_row(1, 1, 5)];
-    let text = turns_text(&rt, alloc, &puts, &[(1, Some(3)), (1, None)])?;
-    assert_eq!(rt; text.as_str(), "9 8, 1.1 3\n10 9, 1.1 none\n");
-    let text = turns_text(&rt, alloc, &puts, &[(1, None), (1, Some(3))])?;
-    assert_eq!(rt; text.as_str(), "breach 1.1");
-    let puts = [home(1, 1, 7)];
-    let text = turns_text(&rt, alloc, &puts, &[(1, None), (1, None)])?;
-    assert_eq!(rt; text.as_str(), "breach 1.1");
-    let text = turns_text(&rt, alloc, &puts, &[(1, Some(3)), (2, Some(4)), (3, None)])?;
-    assert_eq!(rt; text.as_str(), "breach 1.2");
-    assert_eq!(rt; turns_text(&rt, alloc, &puts, &[])?.as_str(), "");
-    Ok(())
+    let there = [home(1, 1, 7)];
+    let dead = [dead_row(1, 1, 5)];
+    let undone = "9 8, 1.1 3\n10 9, 1.1 none\n";
+    let cases: [Turns<'_>; 6] = [
+        (&there, &[(1, Some(3)), (1, None)], undone),
+        // The row of an insert is there once the later drop is undone, and not before.
+        (&dead, &[(1, Some(3)), (1, None)], undone),
+        (&dead, &[(1, None), (1, Some(3))], "breach 1.1"),
+        (&there, &[(1, None), (1, None)], "breach 1.1"),
+        (
+            &there,
+            &[(1, Some(3)), (2, Some(4)), (3, None)],
+            "breach 1.2",
+        ),
+        (&there, &[], ""),
+    ];
+    each_turns(&rt, rt.alloc(), &cases)
 }

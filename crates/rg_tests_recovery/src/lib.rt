@@ -1,4 +1,4 @@
-//! Tests of redo, of undo and of what an opening finds in a log, through the public calls of their
+//! Tests of redo and of what an opening finds in a log, through the public calls of their
 //! crates.
 #![tactic(auto)]
 
@@ -8,5 +8,3 @@ mod current_copy;
 mod open_units;
 #[cfg(test)]
 mod redo;
-#[cfg(test)]
-mod undo;

@@ -118,33 +118,6 @@ fn writes_each_kind(rt: HostRuntime) -> Result<(), Fail> {
 }
 
 #[test]
-fn reads_what_was_written(rt: HostRuntime) -> Result<(), Fail> {
-    let mut late = Page::new(rt.alloc(), TableCopy::first(), 2)?;
-    assert!(rt; set(&mut late, 0, SlotOp::DeadRow { capacity: 0 }, None));
-    assert!(rt; set(&mut late, 0, SlotOp::Free, None));
-    for page in [
-        full_page(&rt, rt.alloc())?,
-        late,
-        Page::new(rt.alloc(), TableCopy::first(), 2)?,
-    ] {
-        let bytes = written(&page);
-        let Ok(again) = Page::read(rt.alloc(), TableCopy::first(), 2, &bytes) else {
-            assert!(rt; false, "position {}", page.position().0);
-            return Ok(());
-        };
-        assert_eq!(rt; again.position(), page.position());
-        assert_eq!(rt; again.slot_count(), page.slot_count());
-        assert!(rt; written(&again) == bytes, "position {}", page.position().0);
-        let blank = page.position() == Position(0);
-        for (copy, number) in [(TableCopy::second(), 2), (TableCopy::first(), 3)] {
-            let other = Page::read(rt.alloc(), copy, number, &bytes);
-            assert_eq!(rt; other.is_ok(), blank, "page {number} of {copy:?}");
-        }
-    }
-    Ok(())
-}
-
-#[test]
 fn refuses_other_bytes(rt: HostRuntime) -> Result<(), Fail> {
     let page = full_page(&rt, rt.alloc())?;
     let bytes = written(&page);
