@@ -195,13 +195,15 @@ fn sync_once<F: OpenFile>(file: &F, faults: &mut Faults) -> Result<(), Fault>
     ensures raised { OnErr result (faults.new ≡ count_after faults.old) }
     ensures cause { HasCause faults.old faults.new result }
 {
-    match file.sync_all() {
+    match file.sync_data() {
         Ok(()) => Ok(()),
         Err(error) => Err(count_error(error, faults)),
     }
 }
 
-/// Brings the file to the device, its length too, and tries again after an interruption.
+/// Brings the file's bytes to the device, and tries again after an interruption. What else is known
+/// of the file, as the time of its last change, may come later: its length does not change once it
+/// has its length, and that was made durable then.
 pub fn sync_through<F: OpenFile>(file: &F, faults: &mut Faults) -> Result<(), Failed>
     ensures cause { HasCause faults.old faults.new result }
     ensures tries { faults.new ≤ faults.old + TRIES }

@@ -95,7 +95,7 @@ impl OpenFile for Faulty<'_> {
     }
 
     fn sync_data(&self) -> io::Result<()> {
-        Err(ErrorKind::Unsupported.into())
+        self.sync_all()
     }
 }
 

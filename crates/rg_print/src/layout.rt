@@ -9,13 +9,12 @@ ghost use Rattle.rg_print.specs.Layout.{is_over, layout_text, listing_line, over
 ghost use Rattle.rg_print.specs.Layout.{side_details, side_line, side_text, spot_line};
 ghost use Rattle.rg_print.specs.Layout.{switched_text, which_text};
 
-use crate::push::{push, push_named, push_word};
+use crate::push::{push, push_named, push_number, push_word};
 use rg_base::copy::TableCopy;
 use rg_base::no_memory::NoMemory;
 use rg_base::place::Place;
 use rg_base::which::Which;
 use rg_stmt::layout::{Listing, Side, Sides, Spot, Spots};
-use std::io::Write;
 
 pub fn push_layout(
     out: &mut Vec<u8>,
@@ -113,8 +112,9 @@ fn push_over(out: &mut Vec<u8>, over: Option<Place>) -> Result<(), NoMemory>
 fn push_place(out: &mut Vec<u8>, place: Place) -> Result<(), NoMemory>
     ensures { OnOk result (out.new.items ≡ out.old.items ++ place_text place) }
 {
-    let Place { page, slot } = place;
-    write!(out, "{page}.{slot}").map_err(|_| NoMemory)
+    push_number(out, u64::from(place.page))?;
+    push(out, b".")?;
+    push_number(out, u64::from(place.slot))
 }
 
 fn push_listing(out: &mut Vec<u8>, which: Which, listing: &Listing) -> Result<(), NoMemory>

@@ -1,16 +1,8 @@
-//! Tests of rows and places, of the plain table, of the outside and of the outside in memory,
+//! Tests of rows and their bytes, and of the volume in memory with what a crash leaves of it,
 //! through the public calls of their crates.
 #![tactic(auto)]
 
 #[cfg(test)]
 mod base;
-#[cfg(test)]
-mod memory;
-#[cfg(test)]
-mod model;
-#[cfg(test)]
-mod outside;
-#[cfg(test)]
-mod statements;
 #[cfg(test)]
 mod volume;

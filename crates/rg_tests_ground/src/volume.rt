@@ -1,11 +1,8 @@
-ghost use Rattle.std.specs.Prelude.{◌≡◌, ◌≤◌};
+ghost use Rattle.std.specs.Prelude.{◌≡◌};
 ghost use Rattle.rg_outside.specs.Capacities.{IsPage};
 
 use rg_base::set::Set;
 use rg_mem::volume::{Failing, MemVolume};
-use rg_outside::counted::{Counted, Counts};
-use rg_outside::pair::write_pair;
-use rg_outside::source::Failed;
 use rg_outside::volume::Volume;
 use std::test::Fail;
 
@@ -109,32 +106,6 @@ fn failing_writes_leave_either_content(rt: HostRuntime) -> Result<(), Fail> {
 }
 
 #[test]
-fn no_room_refuses(rt: HostRuntime) -> Result<(), Fail> {
-    let mut none = MemVolume::new(rt.alloc(), 1, 1, 1, 0, 9, &[], None)?;
-    assert_eq!(rt; byte_at(&mut none, Set::Log, 1), None);
-    assert!(rt; none.sync().is_err());
-    let mut two = MemVolume::new(rt.alloc(), 1, 1, 1, 9, 1, &[], None)?;
-    assert!(rt; two.write(Set::Log, 1, &page_of(1)).is_ok());
-    assert!(rt; two.write(Set::Log, 1, &page_of(2)).is_err());
-    // Once one call is past the room, so are all.
-    assert_eq!(rt; byte_at(&mut two, Set::Log, 1), None);
-    let mut left = two.crash(0)?;
-    assert_eq!(rt; byte_at(&mut left, Set::Log, 1), Some(1));
-    assert_eq!(rt; left.capacity(Set::Log), 1);
-    Ok(())
-}
-
-#[test]
-fn keeps_a_pair(rt: HostRuntime) -> Result<(), Fail> {
-    let mut volume = MemVolume::new(rt.alloc(), 0, 2, 0, 9, 9, &[], None)?;
-    assert!(rt; write_pair(&mut volume, Set::First, 1, &page_of(1), 2, &page_of(2)).is_ok());
-    let mut left = volume.crash(1)?;
-    assert_eq!(rt; byte_at(&mut left, Set::First, 1), Some(1));
-    assert_eq!(rt; byte_at(&mut left, Set::First, 2), Some(2));
-    Ok(())
-}
-
-#[test]
 fn crash_with_leaves_each_image(rt: HostRuntime) -> Result<(), Fail> {
     let mut volume = MemVolume::new(rt.alloc(), 1, 2, 0, 9, 9, &[], None)?;
     assert!(rt; volume.write(Set::First, 1, &page_of(1)).is_ok());
@@ -157,26 +128,5 @@ fn crash_with_leaves_each_image(rt: HostRuntime) -> Result<(), Fail> {
     let mut left = volume.crash_with(&[0, 1])?;
     assert_eq!(rt; byte_at(&mut left, Set::First, 1), Some(1));
     assert_eq!(rt; byte_at(&mut left, Set::First, 2), Some(0));
-    Ok(())
-}
-
-#[test]
-fn counts_calls(rt: HostRuntime) -> Result<(), Fail> {
-    let failing = [Failing {
-        call: 4,
-        written: false,
-    }];
-    let mut volume = MemVolume::new(rt.alloc(), 1, 0, 0, 9, 9, &failing, None)?;
-    assert!(rt; volume.sync().is_ok());
-    let mut counted = Counted::new(volume);
-    assert_eq!(rt; counted.calls(), 0);
-    assert!(rt; counted.write(Set::Log, 1, &page_of(3)).is_ok());
-    assert_eq!(rt; byte_at(&mut counted, Set::Log, 1), Some(3));
-    // A call that fails is counted too.
-    assert!(rt; counted.sync().is_err());
-    assert_eq!(rt; counted.calls(), 3);
-    assert_eq!(rt; counted.capacity(Set::Log), 1);
-    let mut below = counted.into_volume();
-    assert_eq!(rt; byte_at(&mut below, Set::Log, 1), Some(3));
     Ok(())
 }

@@ -5,11 +5,7 @@
 #[cfg(test)]
 mod bulk;
 #[cfg(test)]
-mod indexes;
-#[cfg(test)]
 mod layout;
-#[cfg(test)]
-mod sorted;
 #[cfg(test)]
 mod space;
 #[cfg(test)]

@@ -182,25 +182,6 @@ fn change(
 }
 
 #[test]
-fn follows_changes_by_source(rt: HostRuntime) -> Result<(), Fail> {
-    let alloc = rt.alloc();
-    let mut shadow = indexed(&rt, alloc, Which::Key)?;
-    // The source, the key that its row has then, if it has one, and what the index lists.
-    let table = [
-        (place(1, 1), Some(3), "3 1.0 4 1.1 5 1.2 "),
-        (place(5, 0), Some(8), "3 1.0 4 1.1 5 1.2 8 1.3 "),
-        (place(1, 2), None, "3 1.0 5 1.2 8 1.3 "),
-        (place(7, 7), None, "3 1.0 5 1.2 8 1.3 "),
-        (place(1, 2), Some(4), "3 1.0 4 1.4 5 1.2 8 1.3 "),
-        (place(1, 0), Some(5), "3 1.0 4 1.4 5 1.2 8 1.3 "),
-    ];
-    for (source, key, want) in table {
-        assert_eq!(rt; change(alloc, &mut shadow, source, key)?.as_str(), want);
-    }
-    Ok(())
-}
-
-#[test]
 fn has_no_space_for_a_tenth_row(rt: HostRuntime) -> Result<(), Fail> {
     let alloc = rt.alloc();
     let mut shadow = indexed(&rt, alloc, Which::Key)?;
@@ -295,16 +276,5 @@ fn spells_a_page_at_a_position(rt: HostRuntime) -> Result<(), Fail> {
         listed(alloc, &shadow, Which::Key)?.as_str(),
         "4 1.1 5 1.2 9 1.0 "
     );
-    Ok(())
-}
-
-#[test]
-fn hands_out_pages_and_indexes(rt: HostRuntime) -> Result<(), Fail> {
-    let alloc = rt.alloc();
-    let shadow = built(&rt, alloc)?;
-    assert_eq!(rt; shadow.target(place(1, 0)), Some(place(1, 2)));
-    let (space, indexes) = shadow.into_parts();
-    assert_eq!(rt; space.count(), 1);
-    assert_eq!(rt; indexes.home_of(4), Some(place(1, 1)));
     Ok(())
 }
