@@ -15,3 +15,4 @@ pub mod Between
 pub mod Ending
 pub mod Wholly
 pub mod Judging
+pub mod Sides
